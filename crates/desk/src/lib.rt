@@ -1,0 +1,1 @@
+// No code: document 01's starred desk examples, proved, stand in specs/ and proofs/.
