@@ -1,0 +1,5 @@
+pub mod Runs
+pub mod Updates
+pub mod NeverLost
+pub mod Theorem
+pub mod CaseS
