@@ -1,0 +1,3 @@
+// The steps of a device on its record, and one dispatcher for them.
+mod push;
+pub mod step;

@@ -1,0 +1,9 @@
+pub mod Same
+pub mod Queues
+pub mod Loops
+pub mod One
+pub mod OneRecord
+pub mod Read
+pub mod Meanings
+pub mod Conditions
+pub mod Begins

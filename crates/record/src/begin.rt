@@ -1,0 +1,28 @@
+// A record at first: blank, with no channel, at a number.
+ghost use mathlib.Core.Path.{_≡_};
+ghost use Prim.Native.Nat.{_≤_};
+ghost use lib.ListN.{length};
+ghost use Rattle.words.specs.Layout.{RECORD};
+ghost use Rattle.record.specs.Begun.{Begun};
+use words::layout::BUFFERED;
+use words::layout::KNOWN;
+use words::layout::LAST;
+use words::layout::RECEIVED;
+use words::layout::TAKEN;
+use words::layout::TRANSACTION;
+use words::run::clear_cells;
+use words::run::clear_changes;
+use words::run::clear_numbers;
+
+pub fn begin(r: &mut [u64], cells: usize, number: u64)
+    requires { ⌜ (length (now r) ≡ RECORD) × (cells ≤ 64) ⌝ }
+    ensures { λ _. ⌜ Begun cells number (now (r .entry)) (now (r .exit)) ⌝ }
+{
+    clear_cells(r, KNOWN, cells);
+    clear_changes(r, TRANSACTION, cells);
+    clear_changes(r, BUFFERED, cells);
+    clear_numbers(r, LAST, KNOWN);
+    r[RECEIVED] = 0;
+    r[LAST] = number;
+    r[TAKEN] = number;
+}
