@@ -1,2 +1,17 @@
+pub mod Entries
+pub mod Parts
 pub mod Steps
 pub mod Pushes
+pub mod Renews
+pub mod Updates
+pub mod Confirms
+pub mod Looks
+pub mod Rounds
+pub mod Sends
+pub mod Numbered
+pub mod Items
+pub mod Pulls
+pub mod Joins
+pub mod Receives
+pub mod Prefixes
+pub mod Segments

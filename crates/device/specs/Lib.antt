@@ -1,1 +1,4 @@
 pub mod Did
+pub mod Parts
+pub mod Rounds
+pub mod Items

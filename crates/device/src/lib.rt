@@ -1,3 +1,15 @@
-// The steps of a device on its record, and one dispatcher for them.
+// The steps of a device on its record, and one dispatcher for them. Two of them, confirmed and read, only look.
+mod above;
+mod ask;
+pub mod confirmed;
+mod give_up;
+mod item;
+mod pull;
 mod push;
+pub mod read;
+mod receive;
+mod renew;
+mod round;
+mod send;
 pub mod step;
+mod update;

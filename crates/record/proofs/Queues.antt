@@ -61,6 +61,12 @@ module _ {A : Type 0} where
   queue-drop k (suc m) f =
       rw add-suc (drop-append-le k (queue (k + m) f) (f (k + m) ∷ []) (omega (arith, queue-length (k + m) f)) ∙ ap (λ (q : List A). q ++ (f (k + m) ∷ [])) (queue-drop k m f))
 
+  -- and its first entry
+  pub queue-first : (n : ℕ) (f : ℕ → A) → queue (suc n) f ≡ f 0 ∷ queue n (λ j. f (suc j))
+  unfolding queue
+  queue-first zero f = refl
+  queue-first (suc n) f = ap (λ q. q ++ (f (suc n) ∷ [])) (queue-first n f)
+
 pub queue-map : {A B : Type 0} (g : A → B) (n : ℕ) (f : ℕ → A) → map g (queue n f) ≡ queue n (λ j. g (f j))
 unfolding queue
 queue-map g zero f = refl

@@ -1,11 +1,11 @@
 -- What a loop over places finds: the places that it reads are as they were when it began. Assumes nothing.
-use mathlib.Core.Path.{_≡_, ap, ap₂, _∙_}
+use mathlib.Core.Path.{_≡_, refl, ap, ap₂, _∙_}
 use mathlib.Core.Bool.{true}
 use mathlib.Core.List.{List}
-use Prim.Native.Nat.{ℕ, _+_, _*_, _<_}
+use Prim.Native.Nat.{ℕ, zero, suc, _+_, _*_, _<_}
 use native.Mathlib.Nat.{le-refl}
 use native.Mathlib.Omega.{arith}
-use Rattle.words.specs.Place.{Place, Filled, Valid, Beside, cellAt, cellOk, changeAt, changeOk}
+use Rattle.words.specs.Place.{Place, Filled, Valid, Beside, laterNumber, cellAt, cellOk, changeAt, changeOk}
 use Rattle.cells.specs.Cells.{applied, joined}
 use Rattle.cells.specs.Stored.{cellFinite, changeFinite}
 use Rattle.cells.specs.declared.Cell.{Cell}
@@ -36,3 +36,8 @@ module _ (xs : List ℕ) (o p : ℕ) {d : Change} (e : d ≡ changeAt xs p) (v :
 
   pub stores-joined : {c r : Change} → c ≡ changeAt xs o → r ≡ joined c d → changeOk xs o ≡ true → changeFinite r ≡ true
   stores-joined f g u = ap changeFinite (g ∙ ap₂ joined f e) ∙ joined-finite (changeAt xs o) (changeAt xs p) (change-finite xs o u) (change-finite xs p v)
+
+-- The later of two numbers where it is given.
+pub later-new : (old new : ℕ) → (new ≡ 0 → ⊥) → new ≡ laterNumber old new
+later-new old zero n = absurd (n refl)
+later-new old (suc k) n = refl

@@ -2,9 +2,13 @@
 use mathlib.Core.Path.{_≡_, sym, subst}
 use mathlib.Core.Bool.{Bool, true, false, not}
 use Prim.Native.Nat.{ℕ, _≤_, _<_}
+use lib.IntN.{ℤ}
 use native.Mathlib.Omega.{arith}
 use lib.Dec.{T, leb, eqb}
 use borrow.Author.Tests.{leb-true, leb-false, eqb-true, eqb-false, not-true, not-false}
+use Rattle.cells.specs.declared.Cell.{Cell}
+use Rattle.cells.specs.declared.Change.{Change}
+use Rattle.cells.specs.declared.Change.the-variants.{Nothing}
 use Rattle.words.specs.Place.{Decides}
 
 pub true-false : {P : Type 0} → true ≡ false → P
@@ -31,3 +35,10 @@ decides-ne a b f g = record { sure = λ e. f (eqb-false a b (not-true _ e)); nev
 
 pub not-zero : (a : ℕ) → (a ≡ 0 → ⊥) → 0 < a
 not-zero a n = omega arith
+
+-- A set and an add are not nothing.
+pub set-not-nothing : {d : Change} {v : Cell} → d ≡ Change.Set v → d ≡ Nothing → ⊥
+set-not-nothing p q = let z : _≡_ {A = ℕ} 0 1 = cc in omega arith
+
+pub add-not-nothing : {d : Change} {n : ℤ} → d ≡ Change.Add n → d ≡ Nothing → ⊥
+add-not-nothing p q = let z : _≡_ {A = ℕ} 0 1 = cc in omega arith

@@ -2,7 +2,7 @@
 use mathlib.Core.Path.{_≡_}
 use mathlib.Core.Bool.{Bool, true, false}
 use mathlib.Core.List.{List}
-use Prim.Native.Nat.{ℕ, _+_, _*_, _≤_, _<_}
+use Prim.Native.Nat.{ℕ, zero, suc, _+_, _*_, _≤_, _<_}
 use lib.ListN.{length, getD}
 use Rattle.words.specs.Layout.{CELL, CHANGE}
 use Rattle.cells.specs.Stored.{cellOf, cellWordsOk, changeFrom, changeWordsOk}
@@ -75,6 +75,11 @@ pub record Beside (P Q : Place) (xs : List ℕ) (to from n : ℕ) : Type 0 where
 pub record Numbers (xs ys : List ℕ) (o n : ℕ) (f : ℕ → ℕ) : Type 0 where
   pub is : (k : ℕ) → k < n → getD ys (o + k) 0 ≡ f k
   pub kept : Kept xs ys o n
+
+-- Of two words that give a number or, as 0, none, the second is later: it decides where it gives one.
+abbrev pub laterNumber : ℕ → ℕ → ℕ
+laterNumber old zero = old
+laterNumber old (suc k) = suc k
 
 -- r says whether P.
 pub record Decides (r : Bool) (P : Type 0) : Type 0 where

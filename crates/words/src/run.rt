@@ -1,8 +1,9 @@
 // Loops over the n places of a sheet or a joined change: n is the number of cells in use, never the room.
+ghost use mathlib.Core.Path.{_≡_};
 ghost use Prim.Native.Nat.{_+_, _*_, _≤_};
 ghost use lib.ListN.{length, getD};
 ghost use Rattle.words.specs.Layout.{CELL, CHANGE};
-ghost use Rattle.words.specs.Place.{cellAt, changeAt, cellPlace, changePlace, Filled, Valid, Apart, Beside, Numbers};
+ghost use Rattle.words.specs.Place.{cellAt, changeAt, cellPlace, changePlace, Filled, Valid, Apart, Beside, Numbers, laterNumber};
 ghost use Rattle.cells.specs.Cells.{applied, joined};
 ghost use Rattle.cells.specs.declared.Cell.the-variants.{Blank};
 ghost use Rattle.cells.specs.declared.Change.the-variants.{Nothing};
@@ -113,6 +114,27 @@ pub fn clear_numbers(t: &mut [u64], at: usize, n: usize)
     let mut i = 0;
     while i < n {
         t[at + i] = 0;
+        i += 1;
+    }
+}
+
+fn later_number(old: u64, new: u64) -> u64
+    ensures { λ r. ⌜ r ≡ laterNumber old new ⌝ }
+{
+    if new == 0 {
+        return old;
+    }
+    new
+}
+
+// Takes the n numbers from `from` on over to `to` on, where they are given: 0 gives none.
+pub fn take_numbers(t: &mut [u64], to: usize, from: usize, n: usize)
+    requires { ⌜ (from + n ≤ length (now t)) × (to + n ≤ length (now t)) × Apart to n from n ⌝ }
+    ensures { λ _. ⌜ Numbers (now (t .entry)) (now (t .exit)) to n (λ k. laterNumber (getD (now (t .entry)) (to + k) 0) (getD (now (t .entry)) (from + k) 0)) ⌝ }
+{
+    let mut i = 0;
+    while i < n {
+        t[to + i] = later_number(t[to + i], t[from + i]);
         i += 1;
     }
 }
