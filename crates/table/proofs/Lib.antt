@@ -1,0 +1,5 @@
+pub mod Part
+pub mod Records
+pub mod Tables
+pub mod Lifted
+pub mod Starts
