@@ -40,7 +40,7 @@ same-length : tie.Need-same-length
 same-length c = let z = c .before .before .before .before .before .before .before .before .before .before .are-sizes .ensures .sure (not-false _ (c .before .before .before .before .before .before .before .before .before .if1 .left)) in simp length-set (omega arith)
 
 returns-3 : tie.Need-returns-3
-returns-3 c = let z = c .before .before .before .before .before .before .before .before .before .before .are-sizes .ensures .sure (not-false _ (c .before .before .before .before .before .before .before .before .before .if1 .left)) in 
+returns-3 c = let z = c .before .before .before .before .before .before .before .before .before .before .are-sizes .ensures .sure (not-false _ (c .before .before .before .before .before .before .before .before .before .if1 .left)) in
     start-done _ _ _ _ z (c .before .before .before .before .before .before .before .before .if2 .left) (started-is _ _ _ _ _ z (c .before .before .before .before .before .before .before .before .if2 .left) (c .before .before .before .before .before .before .begin-records .kept .0) (c .before .before .clear-cells .kept .0 ∙ c .before .before .before .before .before .before .begin-records .kept .0) (c .before .before .before .before .before .before .begin-records .ensures) (c .before .before .clear-cells .ensures))
 
 pub start-spec : {M : Type 1} → statement M
