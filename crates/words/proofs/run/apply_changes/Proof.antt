@@ -33,7 +33,7 @@ apply-requires : tie.Need-apply-requires Inv-loop μ-loop
 apply-requires c κs = search needs
 
 put-cell-requires : tie.Need-put-cell-requires Inv-loop μ-loop
-put-cell-requires c κs = let l = c .before .before .before .before .before .before .before .loop in let s = c .before .before .before .before .before .before .before .before .before in (omega arith, stores-applied _ _ _ (c .before .before .get-change .ensures) (source-valid cellPlace cell-local _ _ _ (l .i) _ (l .inv .2) changePlace change-local _ _ (c .before .before .before .before .before .before .loop-test .taken) (s .pre .0)) (c .before .before .before .before .get-cell .ensures) (c .apply .ensures) (target-valid cellPlace cell-local _ _ _ (l .i) _ (l .inv .2) _ (c .before .before .before .before .before .before .loop-test .taken) (s .pre .1)))
+put-cell-requires c κs = let l = c .before .before .before .before .before .before .before .loop in let s = c .before .before .before .before .before .before .before .before .before in (omega arith, stores-applied _ _ _ _ (c .before .before .get-change .ensures) (source-valid cellPlace cell-local _ _ _ (l .i) _ (l .inv .2) changePlace change-local _ _ (c .before .before .before .before .before .before .loop-test .taken) (s .pre .0)) (c .before .before .before .before .get-cell .ensures) (c .apply .ensures) (target-valid cellPlace cell-local _ _ _ (l .i) _ (l .inv .2) _ (c .before .before .before .before .before .before .loop-test .taken) (s .pre .1)))
 
 add-i : tie.Need-add-i Inv-loop μ-loop
 add-i c = omega arith

@@ -33,7 +33,7 @@ join-requires : tie.Need-join-requires Inv-loop μ-loop
 join-requires c κs = search needs
 
 put-change-requires : tie.Need-put-change-requires Inv-loop μ-loop
-put-change-requires c κs = let l = c .before .before .before .before .before .before .before .loop in let s = c .before .before .before .before .before .before .before .before .before in (omega arith, stores-joined _ _ _ (c .before .before .get-change2 .ensures) (source-valid changePlace change-local _ _ _ (l .i) _ (l .inv .2) changePlace change-local _ _ (c .before .before .before .before .before .before .loop-test .taken) (s .pre .0)) (c .before .before .before .before .get-change .ensures) (c .join .ensures) (target-valid changePlace change-local _ _ _ (l .i) _ (l .inv .2) _ (c .before .before .before .before .before .before .loop-test .taken) (s .pre .1)))
+put-change-requires c κs = let l = c .before .before .before .before .before .before .before .loop in let s = c .before .before .before .before .before .before .before .before .before in (omega arith, stores-joined _ _ _ _ (c .before .before .get-change2 .ensures) (source-valid changePlace change-local _ _ _ (l .i) _ (l .inv .2) changePlace change-local _ _ (c .before .before .before .before .before .before .loop-test .taken) (s .pre .0)) (c .before .before .before .before .get-change .ensures) (c .join .ensures) (target-valid changePlace change-local _ _ _ (l .i) _ (l .inv .2) _ (c .before .before .before .before .before .before .loop-test .taken) (s .pre .1)))
 
 add-i : tie.Need-add-i Inv-loop μ-loop
 add-i c = omega arith
