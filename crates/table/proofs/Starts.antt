@@ -27,17 +27,6 @@ use Rattle.table.specs.Table.{need, recordAt, reading, InTable, ValidTab
 use Rattle.table.specs.Promise.{Became, Begins, Started}
 use Rattle.table.proofs.Part.{Replaced, record-same, record-word, other-record}
 
-pub begins-none : (cells : ℕ) (xs : List ℕ) → Begins cells xs xs 0
-begins-none cells xs = record { each = λ d h. absurd (omega arith); kept = λ i out. refl }
-
-pub begins-more : (cells n : ℕ) (xs ys zs rs : List ℕ) → length ys ≡ length xs → RECORDS + RECORD * n + RECORD ≤ length xs → Begins cells xs ys n → Replaced ys zs n rs → Begun cells 0 (recordAt ys n) rs → Begins cells xs zs (n + 1)
-begins-more cells n xs ys zs rs l h B R G = record {
-  each = below-suc {P = λ d. Begun cells 0 (recordAt xs d) (recordAt zs d)} n
-      (λ d b. rw (other-record ys zs n d rs R (omega arith) (λ q. omega arith)) (B .each d b))
-      (rw (R .here) (subst (λ (r : List ℕ). Begun cells 0 r rs) (record-same xs ys n h l (λ i b. B .kept (RECORDS + RECORD * n + i) (λ p q. omega arith))) G));
-  kept = λ i out. R .out i (λ p q. out (omega arith) (omega arith)) ∙ B .kept i (λ p q. out p (omega arith));
-}
-
 module _ (devices cells : ℕ) (xs y1 y2 : List ℕ) (Z : Sizes devices cells) (long : need devices ≤ length xs) (l1 : length y1 ≡ length xs) (l2 : length y2 ≡ length xs) (B : Begins cells xs y1 devices) (F : Filled cellPlace y1 y2 SHEET cells (λ k. Blank)) where
   y3 : List ℕ
   y3 = set y2 DEVICES devices

@@ -39,7 +39,11 @@ pub record Started (devices cells : ℕ) (xs : List ℕ) (a : Answer) (ys : List
   pub short : Sizes devices cells → length xs < need devices → RefusedWith NoTable xs a ys
   pub begun : Sizes devices cells → need devices ≤ length xs → (meaning a ≡ done) × Became xs ys (fresh sheet (started devices cells))
 
--- ys is xs with the records of n devices begun, each at number 0.
-pub record Begins (cells : ℕ) (xs ys : List ℕ) (n : ℕ) : Type 0 where
-  pub each : (d : ℕ) → d < n → Begun cells 0 (recordAt xs d) (recordAt ys d)
+-- ys is xs with the records of the first n devices changed, each as Q says of its number, its old words and its new ones.
+pub record Each (Q : ℕ → List ℕ → List ℕ → Type 0) (xs ys : List ℕ) (n : ℕ) : Type 0 where
+  pub each : (d : ℕ) → d < n → Q d (recordAt xs d) (recordAt ys d)
   pub kept : Kept xs ys RECORDS (RECORD * n)
+
+-- The records of n devices begun, each at number 0.
+abbrev pub Begins : (cells : ℕ) → List ℕ → List ℕ → ℕ → Type 0
+Begins cells = Each (λ d. Begun cells 0)

@@ -4,7 +4,7 @@ use mathlib.Core.Path.{_∙_}
 use borrow.Author.Tests.{not-true, not-false}
 use Rattle.table.proofs.Part.{part-is, part-length, replaced}
 use Rattle.table.proofs.Tables.{record-of}
-use Rattle.table.proofs.Lifted.{no-table, no-device, lifted}
+use Rattle.table.proofs.Lifted.{no-table, no-device-named, lifted-named}
 use native.Mathlib.Omega.{arith}
 use borrow.Author.Needs.{needs}
 use Rattle.table.proofs.calls.on_device.Statement.{statement}
@@ -26,7 +26,7 @@ same-length-2 : tie.Need-same-length-2
 same-length-2 c = search needs
 
 returns-2 : tie.Need-returns-2
-returns-2 c = no-device _ _ (c .before .before .before .before .before .before .args .op) (c .before .before .before .is-table .ensures .sure (not-false _ (c .before .before .if1 .left))) (c .if2 .taken)
+returns-2 c = no-device-named _ _ (c .before .before .before .before .before .before .args .op) (c .before .before .before .is-table .ensures .sure (not-false _ (c .before .before .if1 .left))) (c .if2 .taken)
 
 slice-read-devices : tie.Need-slice-read-devices
 slice-read-devices c = let T = c .before .before .before .before .is-table .ensures .sure (not-false _ (c .before .before .before .if1 .left)) in let ok = T .valid in let z = ok .sizes in omega arith
@@ -68,7 +68,7 @@ returns-3 c =
     let ok = T .valid in
     let z = ok .sizes in
     let size = w .kept .0 ∙ part-length _ (c .before .before .before .before .before .before .before .before .before .before .before .before .args .d) (omega arith) in
-    lifted _ _ _ (c .before .before .before .before .before .before .before .before .before .before .before .before .args .d) (c .before .before .before .before .before .before .before .before .before .before .before .before .args .op) _ T (c .before .before .before .before .before .before .if2 .left) (replaced _ _ (c .before .before .before .before .before .before .before .before .before .before .before .before .args .d) (omega arith) size) (rw (part-is _ _) at (w .ensures))
+    lifted-named _ (c .before .before .before .before .before .before .before .before .before .before .before .before .args .d) (c .before .before .before .before .before .before .before .before .before .before .before .before .args .op) T (c .before .before .before .before .before .before .if2 .left) _ _ _ (replaced _ _ (c .before .before .before .before .before .before .before .before .before .before .before .before .args .d) (omega arith) size) (rw (part-is _ _) at (w .ensures))
 
 pub on-device-spec : {M : Type 1} → statement M
 on-device-spec =
