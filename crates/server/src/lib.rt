@@ -1,0 +1,2 @@
+// The server and the link on the lent table.
+pub mod gather;
