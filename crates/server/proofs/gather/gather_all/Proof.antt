@@ -21,28 +21,42 @@ loop-holds : tie.Need-loop-holds Inv-loop μ-loop
 loop-holds c = (omega arith, omega arith, refl, gathered-start _ _ _ _ (c .before .before .before .pre .1))
 
 mul-a : tie.Need-mul-a Inv-loop μ-loop
-mul-a c = let f = fits _ _ _ (c .before .before .before .before .before .pre .0) (c .before .loop .d) (c .loop-test .taken) in omega arith
+mul-a c =
+    let f = fits _ _ _ (c .before .before .before .before .before .pre .0) (c .before .loop .d) (c .loop-test .taken) in
+    omega arith
 
 add-a : tie.Need-add-a Inv-loop μ-loop
-add-a c = let f = fits _ _ _ (c .before .before .before .before .before .pre .0) (c .before .loop .d) (c .loop-test .taken) in omega arith
+add-a c =
+    let f = fits _ _ _ (c .before .before .before .before .before .pre .0) (c .before .loop .d) (c .loop-test .taken) in
+    omega arith
 
 add-e : tie.Need-add-e Inv-loop μ-loop
-add-e c = let f = fits _ _ _ (c .before .before .before .before .before .pre .0) (c .before .loop .d) (c .loop-test .taken) in omega arith
+add-e c =
+    let f = fits _ _ _ (c .before .before .before .before .before .pre .0) (c .before .loop .d) (c .loop-test .taken) in
+    omega arith
 
 count-of-requires : tie.Need-count-of-requires Inv-loop μ-loop
 count-of-requires c κs = search needs
 
 mul-gather-one : tie.Need-mul-gather-one Inv-loop μ-loop
-mul-gather-one c = let f = fits _ _ _ (c .before .before .before .before .before .before .before .pre .0) (c .before .before .before .loop .d) (c .before .before .loop-test .taken) in omega arith
+mul-gather-one c =
+    let f = fits _ _ _ (c .before .before .before .before .before .before .before .pre .0) (c .before .before .before .loop .d) (c .before .before .loop-test .taken) in
+    omega arith
 
 sub-gather-one : tie.Need-sub-gather-one Inv-loop μ-loop
-sub-gather-one c = let f = fits _ _ _ (c .before .before .before .before .before .before .before .pre .0) (c .before .before .before .loop .d) (c .before .before .loop-test .taken) in omega arith
+sub-gather-one c =
+    let f = fits _ _ _ (c .before .before .before .before .before .before .before .pre .0) (c .before .before .before .loop .d) (c .before .before .loop-test .taken) in
+    omega arith
 
 part-gather-one-start : tie.Need-part-gather-one-start Inv-loop μ-loop
-part-gather-one-start c = let f = fits _ _ _ (c .before .before .before .before .before .before .before .pre .0) (c .before .before .before .loop .d) (c .before .before .loop-test .taken) in omega arith
+part-gather-one-start c =
+    let f = fits _ _ _ (c .before .before .before .before .before .before .before .pre .0) (c .before .before .before .loop .d) (c .before .before .loop-test .taken) in
+    omega arith
 
 part-gather-one-end : tie.Need-part-gather-one-end Inv-loop μ-loop
-part-gather-one-end c = let f = fits _ _ _ (c .before .before .before .before .before .before .before .pre .0) (c .before .before .before .loop .d) (c .before .before .loop-test .taken) in omega arith
+part-gather-one-end c =
+    let f = fits _ _ _ (c .before .before .before .before .before .before .before .pre .0) (c .before .before .before .loop .d) (c .before .before .loop-test .taken) in
+    omega arith
 
 gather-one-requires : tie.Need-gather-one-requires Inv-loop μ-loop
 gather-one-requires c κs =
@@ -77,7 +91,10 @@ same-length : tie.Need-same-length Inv-loop μ-loop
 same-length c = c .before .loop .inv .2
 
 returns : tie.Need-returns Inv-loop μ-loop
-returns c = let l = c .before .loop in let e : l .d ≡ c .before .before .before .before .before .args .devices = omega arith in rw e at (l .inv .3)
+returns c =
+    let l = c .before .loop in
+    let e : l .d ≡ c .before .before .before .before .before .args .devices = omega arith in
+    rw e at (l .inv .3)
 
 pub gather-all-spec : {M : Type 1} → statement M
 gather-all-spec =

@@ -38,7 +38,12 @@ shared-slice-read-number : tie.Need-shared-slice-read-number
 shared-slice-read-number c = search needs
 
 add-segment : tie.Need-add-segment
-add-segment c = let p = c .before .before .before .before .before .before .before .before .before .before .before .pre .0 in let e = c .before .before .before .before .before .before .share .ensures in let k = c .before .before .before .before .before .before .share .result in let m = p .in-range (k - 1) (omega arith) in omega arith
+add-segment c =
+    let p = c .before .before .before .before .before .before .before .before .before .before .before .pre .0 in
+    let e = c .before .before .before .before .before .before .share .ensures in
+    let k = c .before .before .before .before .before .before .share .result in
+    let m = p .in-range (k - 1) (omega arith) in
+    omega arith
 
 add-segment-2 : tie.Need-add-segment-2
 add-segment-2 c = search needs
@@ -53,13 +58,17 @@ same-length : tie.Need-same-length
 same-length c = search needs
 
 returns : tie.Need-returns
-returns c = let p = c .before .before .before .before .before .before .before .before .before .before .before .pre in gathered-some _ _ _ _ _ _ _ (p .1) (c .before .before .before .before .before .before .share .ensures) (c .before .before .before .before .join-rounds .ensures) (omega arith) (c .before .if1 .taken) (omega arith)
+returns c =
+    let p = c .before .before .before .before .before .before .before .before .before .before .before .pre in
+    gathered-some _ _ _ _ _ _ _ (p .1) (c .before .before .before .before .before .before .share .ensures) (c .before .before .before .before .join-rounds .ensures) (omega arith) (c .before .if1 .taken) (omega arith)
 
 same-length-2 : tie.Need-same-length-2
 same-length-2 c = search needs
 
 returns-2 : tie.Need-returns-2
-returns-2 c = let p = c .before .before .before .before .before .before .before .before .before .before .pre in gathered-none _ _ _ _ _ _ _ (p .1) (c .before .before .before .before .before .share .ensures) (c .before .before .before .join-rounds .ensures) (omega arith)
+returns-2 c =
+    let p = c .before .before .before .before .before .before .before .before .before .before .pre in
+    gathered-none _ _ _ _ _ _ _ (p .1) (c .before .before .before .before .before .share .ensures) (c .before .before .before .join-rounds .ensures) (omega arith)
 
 pub gather-one-spec : {M : Type 1} → statement M
 gather-one-spec =

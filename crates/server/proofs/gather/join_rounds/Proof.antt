@@ -41,13 +41,19 @@ loop-less : tie.Need-loop-less Inv-loop μ-loop
 loop-less c = omega arith
 
 loop-again : tie.Need-loop-again Inv-loop μ-loop
-loop-again c = let l = c .before .before .before .before .before .loop in let w = c .before .before .join-changes-from in (omega arith, w .kept .0 ∙ l .inv .1, rounds-more _ _ _ (l .j) _ _ (l .inv .2) (w .ensures))
+loop-again c =
+    let l = c .before .before .before .before .before .loop in
+    let w = c .before .before .join-changes-from in
+    (omega arith, w .kept .0 ∙ l .inv .1, rounds-more _ _ _ (l .j) _ _ (l .inv .2) (w .ensures))
 
 same-length : tie.Need-same-length Inv-loop μ-loop
 same-length c = c .before .loop .inv .1
 
 returns : tie.Need-returns Inv-loop μ-loop
-returns c = let l = c .before .loop in let e : l .j ≡ c .before .before .before .before .args .k = omega arith in rw e at (l .inv .2)
+returns c =
+    let l = c .before .loop in
+    let e : l .j ≡ c .before .before .before .before .args .k = omega arith in
+    rw e at (l .inv .2)
 
 pub join-rounds-spec : {M : Type 1} → statement M
 join-rounds-spec =

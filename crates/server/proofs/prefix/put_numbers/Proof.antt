@@ -23,31 +23,58 @@ loop-holds : tie.Need-loop-holds Inv-loop μ-loop
 loop-holds c = (omega arith, refl, numbers-none _ _ _)
 
 mul-at : tie.Need-mul-at Inv-loop μ-loop
-mul-at c = let f = fits _ _ _ (c .before .before .pre .0) (c .before .loop .d) (c .loop-test .taken) in let e = few _ _ _ (c .before .before .pre .0) (c .before .loop .d) (c .loop-test .taken) in omega arith
+mul-at c =
+    let f = fits _ _ _ (c .before .before .pre .0) (c .before .loop .d) (c .loop-test .taken) in
+    let e = few _ _ _ (c .before .before .pre .0) (c .before .loop .d) (c .loop-test .taken) in
+    omega arith
 
 add-at : tie.Need-add-at Inv-loop μ-loop
-add-at c = let f = fits _ _ _ (c .before .before .pre .0) (c .before .loop .d) (c .loop-test .taken) in let e = few _ _ _ (c .before .before .pre .0) (c .before .loop .d) (c .loop-test .taken) in omega arith
+add-at c =
+    let f = fits _ _ _ (c .before .before .pre .0) (c .before .loop .d) (c .loop-test .taken) in
+    let e = few _ _ _ (c .before .before .pre .0) (c .before .loop .d) (c .loop-test .taken) in
+    omega arith
 
 add-at-2 : tie.Need-add-at-2 Inv-loop μ-loop
-add-at-2 c = let f = fits _ _ _ (c .before .before .pre .0) (c .before .loop .d) (c .loop-test .taken) in let e = few _ _ _ (c .before .before .pre .0) (c .before .loop .d) (c .loop-test .taken) in omega arith
+add-at-2 c =
+    let f = fits _ _ _ (c .before .before .pre .0) (c .before .loop .d) (c .loop-test .taken) in
+    let e = few _ _ _ (c .before .before .pre .0) (c .before .loop .d) (c .loop-test .taken) in
+    omega arith
 
 mul-item : tie.Need-mul-item Inv-loop μ-loop
-mul-item c = let f = fits _ _ _ (c .before .before .pre .0) (c .before .loop .d) (c .loop-test .taken) in let e = few _ _ _ (c .before .before .pre .0) (c .before .loop .d) (c .loop-test .taken) in omega arith
+mul-item c =
+    let f = fits _ _ _ (c .before .before .pre .0) (c .before .loop .d) (c .loop-test .taken) in
+    let e = few _ _ _ (c .before .before .pre .0) (c .before .loop .d) (c .loop-test .taken) in
+    omega arith
 
 shared-slice-read-item : tie.Need-shared-slice-read-item Inv-loop μ-loop
-shared-slice-read-item c = let f = fits _ _ _ (c .before .before .before .pre .0) (c .before .before .loop .d) (c .before .loop-test .taken) in let e = few _ _ _ (c .before .before .before .pre .0) (c .before .before .loop .d) (c .before .loop-test .taken) in omega arith
+shared-slice-read-item c =
+    let f = fits _ _ _ (c .before .before .before .pre .0) (c .before .before .loop .d) (c .before .loop-test .taken) in
+    let e = few _ _ _ (c .before .before .before .pre .0) (c .before .before .loop .d) (c .before .loop-test .taken) in
+    omega arith
 
 add-item : tie.Need-add-item Inv-loop μ-loop
-add-item c = let w = taken-word _ _ _ (c .before .before .before .pre .0) (c .before .before .loop .d) (c .before .loop-test .taken) in let r = taken-in-range _ _ _ (c .before .before .before .pre .0) (c .before .before .loop .d) (c .before .loop-test .taken) in omega arith
+add-item c =
+    let w = taken-word _ _ _ (c .before .before .before .pre .0) (c .before .before .loop .d) (c .before .loop-test .taken) in
+    let r = taken-in-range _ _ _ (c .before .before .before .pre .0) (c .before .before .loop .d) (c .before .loop-test .taken) in
+    omega arith
 
 add-item-2 : tie.Need-add-item-2 Inv-loop μ-loop
-add-item-2 c = let f = fits _ _ _ (c .before .before .before .pre .0) (c .before .before .loop .d) (c .before .loop-test .taken) in let e = few _ _ _ (c .before .before .before .pre .0) (c .before .before .loop .d) (c .before .loop-test .taken) in omega arith
+add-item-2 c =
+    let f = fits _ _ _ (c .before .before .before .pre .0) (c .before .before .loop .d) (c .before .loop-test .taken) in
+    let e = few _ _ _ (c .before .before .before .pre .0) (c .before .before .loop .d) (c .before .loop-test .taken) in
+    omega arith
 
 mul-item-2 : tie.Need-mul-item-2 Inv-loop μ-loop
-mul-item-2 c = let f = fits _ _ _ (c .before .before .before .pre .0) (c .before .before .loop .d) (c .before .loop-test .taken) in let e = few _ _ _ (c .before .before .before .pre .0) (c .before .before .loop .d) (c .before .loop-test .taken) in omega arith
+mul-item-2 c =
+    let f = fits _ _ _ (c .before .before .before .pre .0) (c .before .before .loop .d) (c .before .loop-test .taken) in
+    let e = few _ _ _ (c .before .before .before .pre .0) (c .before .before .loop .d) (c .before .loop-test .taken) in
+    omega arith
 
 slice-write-item : tie.Need-slice-write-item Inv-loop μ-loop
-slice-write-item c = let f = fits _ _ _ (c .before .before .before .pre .0) (c .before .before .loop .d) (c .before .loop-test .taken) in let e = few _ _ _ (c .before .before .before .pre .0) (c .before .before .loop .d) (c .before .loop-test .taken) in omega arith
+slice-write-item c =
+    let f = fits _ _ _ (c .before .before .before .pre .0) (c .before .before .loop .d) (c .before .loop-test .taken) in
+    let e = few _ _ _ (c .before .before .before .pre .0) (c .before .before .loop .d) (c .before .loop-test .taken) in
+    omega arith
 
 add-d : tie.Need-add-d Inv-loop μ-loop
 add-d c = omega arith
@@ -66,7 +93,10 @@ same-length : tie.Need-same-length Inv-loop μ-loop
 same-length c = c .before .loop .inv .1
 
 returns : tie.Need-returns Inv-loop μ-loop
-returns c = let l = c .before .loop in let e : l .d ≡ c .before .before .args .devices = omega arith in rw e at (l .inv .2)
+returns c =
+    let l = c .before .loop in
+    let e : l .d ≡ c .before .before .args .devices = omega arith in
+    rw e at (l .inv .2)
 
 pub put-numbers-spec : {M : Type 1} → statement M
 put-numbers-spec =

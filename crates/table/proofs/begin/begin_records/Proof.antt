@@ -62,7 +62,10 @@ same-length : tie.Need-same-length Inv-loop μ-loop
 same-length c = c .before .loop .inv .1
 
 returns : tie.Need-returns Inv-loop μ-loop
-returns c = let l = c .before .loop in let e : l .d ≡ c .before .before .before .args .n = omega arith in rw e at (l .inv .2)
+returns c =
+    let l = c .before .loop in
+    let e : l .d ≡ c .before .before .before .args .n = omega arith in
+    rw e at (l .inv .2)
 
 pub begin-records-spec : {M : Type 1} → statement M
 begin-records-spec =

@@ -22,22 +22,32 @@ add-if2 : tie.Need-add-if2
 add-if2 c = let z = c .before .are-sizes .ensures .sure (not-false _ (c .if1 .left)) in omega arith
 
 returns-2 : tie.Need-returns-2
-returns-2 c = let z = c .before .before .are-sizes .ensures .sure (not-false _ (c .before .if1 .left)) in start-short _ _ _ z (c .if2 .taken)
+returns-2 c =
+    let z = c .before .before .are-sizes .ensures .sure (not-false _ (c .before .if1 .left)) in
+    start-short _ _ _ z (c .if2 .taken)
 
 begin-records-requires : tie.Need-begin-records-requires
-begin-records-requires c κs = let z = c .before .before .before .are-sizes .ensures .sure (not-false _ (c .before .before .if1 .left)) in (omega arith, omega arith, omega arith)
+begin-records-requires c κs =
+    let z = c .before .before .before .are-sizes .ensures .sure (not-false _ (c .before .before .if1 .left)) in
+    (omega arith, omega arith, omega arith)
 
 clear-cells-requires : tie.Need-clear-cells-requires
-clear-cells-requires c κs = let z = c .before .before .before .before .before .before .before .are-sizes .ensures .sure (not-false _ (c .before .before .before .before .before .before .if1 .left)) in omega arith
+clear-cells-requires c κs =
+    let z = c .before .before .before .before .before .before .before .are-sizes .ensures .sure (not-false _ (c .before .before .before .before .before .before .if1 .left)) in
+    omega arith
 
 slice-write-t : tie.Need-slice-write-t
 slice-write-t c = search needs
 
 slice-write-t-2 : tie.Need-slice-write-t-2
-slice-write-t-2 c = let z = c .before .before .before .before .before .before .before .before .before .before .are-sizes .ensures .sure (not-false _ (c .before .before .before .before .before .before .before .before .before .if1 .left)) in simp length-set (omega arith)
+slice-write-t-2 c =
+    let z = c .before .before .before .before .before .before .before .before .before .before .are-sizes .ensures .sure (not-false _ (c .before .before .before .before .before .before .before .before .before .if1 .left)) in
+    simp length-set (omega arith)
 
 same-length : tie.Need-same-length
-same-length c = let z = c .before .before .before .before .before .before .before .before .before .before .are-sizes .ensures .sure (not-false _ (c .before .before .before .before .before .before .before .before .before .if1 .left)) in simp length-set (omega arith)
+same-length c =
+    let z = c .before .before .before .before .before .before .before .before .before .before .are-sizes .ensures .sure (not-false _ (c .before .before .before .before .before .before .before .before .before .if1 .left)) in
+    simp length-set (omega arith)
 
 returns-3 : tie.Need-returns-3
 returns-3 c = let z = c .before .before .before .before .before .before .before .before .before .before .are-sizes .ensures .sure (not-false _ (c .before .before .before .before .before .before .before .before .before .if1 .left)) in

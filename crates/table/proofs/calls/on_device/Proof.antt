@@ -20,7 +20,11 @@ returns : tie.Need-returns
 returns c = no-table _ _ (c .before .is-table .ensures .never (not-true _ (c .if1 .taken)))
 
 slice-read-if2 : tie.Need-slice-read-if2
-slice-read-if2 c = let T = c .before .before .is-table .ensures .sure (not-false _ (c .before .if1 .left)) in let ok = T .valid in let z = ok .sizes in omega arith
+slice-read-if2 c =
+    let T = c .before .before .is-table .ensures .sure (not-false _ (c .before .if1 .left)) in
+    let ok = T .valid in
+    let z = ok .sizes in
+    omega arith
 
 same-length-2 : tie.Need-same-length-2
 same-length-2 c = search needs
@@ -29,22 +33,46 @@ returns-2 : tie.Need-returns-2
 returns-2 c = no-device-named _ _ (c .before .before .before .before .before .before .args .op) (c .before .before .before .is-table .ensures .sure (not-false _ (c .before .before .if1 .left))) (c .if2 .taken)
 
 slice-read-devices : tie.Need-slice-read-devices
-slice-read-devices c = let T = c .before .before .before .before .is-table .ensures .sure (not-false _ (c .before .before .before .if1 .left)) in let ok = T .valid in let z = ok .sizes in omega arith
+slice-read-devices c =
+    let T = c .before .before .before .before .is-table .ensures .sure (not-false _ (c .before .before .before .if1 .left)) in
+    let ok = T .valid in
+    let z = ok .sizes in
+    omega arith
 
 slice-read-cells : tie.Need-slice-read-cells
-slice-read-cells c = let T = c .before .before .before .before .before .is-table .ensures .sure (not-false _ (c .before .before .before .before .if1 .left)) in let ok = T .valid in let z = ok .sizes in omega arith
+slice-read-cells c =
+    let T = c .before .before .before .before .before .is-table .ensures .sure (not-false _ (c .before .before .before .before .if1 .left)) in
+    let ok = T .valid in
+    let z = ok .sizes in
+    omega arith
 
 mul-a : tie.Need-mul-a
-mul-a c = let T = c .before .before .before .before .before .is-table .ensures .sure (not-false _ (c .before .before .before .before .if1 .left)) in let ok = T .valid in let z = ok .sizes in omega arith
+mul-a c =
+    let T = c .before .before .before .before .before .is-table .ensures .sure (not-false _ (c .before .before .before .before .if1 .left)) in
+    let ok = T .valid in
+    let z = ok .sizes in
+    omega arith
 
 add-a : tie.Need-add-a
-add-a c = let T = c .before .before .before .before .before .is-table .ensures .sure (not-false _ (c .before .before .before .before .if1 .left)) in let ok = T .valid in let z = ok .sizes in omega arith
+add-a c =
+    let T = c .before .before .before .before .before .is-table .ensures .sure (not-false _ (c .before .before .before .before .if1 .left)) in
+    let ok = T .valid in
+    let z = ok .sizes in
+    omega arith
 
 add-e : tie.Need-add-e
-add-e c = let T = c .before .before .before .before .before .is-table .ensures .sure (not-false _ (c .before .before .before .before .if1 .left)) in let ok = T .valid in let z = ok .sizes in omega arith
+add-e c =
+    let T = c .before .before .before .before .before .is-table .ensures .sure (not-false _ (c .before .before .before .before .if1 .left)) in
+    let ok = T .valid in
+    let z = ok .sizes in
+    omega arith
 
 mul-on-record : tie.Need-mul-on-record
-mul-on-record c = let T = c .before .before .before .before .before .is-table .ensures .sure (not-false _ (c .before .before .before .before .if1 .left)) in let ok = T .valid in let z = ok .sizes in omega arith
+mul-on-record c =
+    let T = c .before .before .before .before .before .is-table .ensures .sure (not-false _ (c .before .before .before .before .if1 .left)) in
+    let ok = T .valid in
+    let z = ok .sizes in
+    omega arith
 
 sub-on-record : tie.Need-sub-on-record
 sub-on-record c = search needs
@@ -53,10 +81,18 @@ part-on-record-start : tie.Need-part-on-record-start
 part-on-record-start c = search needs
 
 part-on-record-end : tie.Need-part-on-record-end
-part-on-record-end c = let T = c .before .before .before .before .before .is-table .ensures .sure (not-false _ (c .before .before .before .before .if1 .left)) in let ok = T .valid in let z = ok .sizes in omega arith
+part-on-record-end c =
+    let T = c .before .before .before .before .before .is-table .ensures .sure (not-false _ (c .before .before .before .before .if1 .left)) in
+    let ok = T .valid in
+    let z = ok .sizes in
+    omega arith
 
 on-record-requires : tie.Need-on-record-requires
-on-record-requires c κs = let T = c .before .before .before .before .before .before .is-table .ensures .sure (not-false _ (c .before .before .before .before .before .if1 .left)) in let ok = T .valid in let z = ok .sizes in rw (part-is _ _) (record-of _ T _ (c .before .before .before .if2 .left))
+on-record-requires c κs =
+    let T = c .before .before .before .before .before .before .is-table .ensures .sure (not-false _ (c .before .before .before .before .before .if1 .left)) in
+    let ok = T .valid in
+    let z = ok .sizes in
+    rw (part-is _ _) (record-of _ T _ (c .before .before .before .if2 .left))
 
 same-length-3 : tie.Need-same-length-3
 same-length-3 c = search needs

@@ -45,7 +45,9 @@ part-is-record-end : tie.Need-part-is-record-end Inv-loop μ-loop
 part-is-record-end c = omega arith
 
 is-record-requires : tie.Need-is-record-requires Inv-loop μ-loop
-is-record-requires c κs = let l = c .before .before .loop in (part-length _ (l .d) (omega arith), omega arith, omega arith)
+is-record-requires c κs =
+    let l = c .before .before .loop in
+    (part-length _ (l .d) (omega arith), omega arith, omega arith)
 
 returns : tie.Need-returns Inv-loop μ-loop
 returns c = says-false (λ s. (rw (part-is _ _) at (c .before .is-record .ensures .never (not-true _ (c .if1 .taken)))) (s (c .before .before .before .before .loop .d) (c .before .before .before .loop-test .taken)))
@@ -57,10 +59,17 @@ loop-less : tie.Need-loop-less Inv-loop μ-loop
 loop-less c = omega arith
 
 loop-again : tie.Need-loop-again Inv-loop μ-loop
-loop-again c = let l = c .before .before .before .before .loop in (omega arith, below-suc (l .d) (l .inv .1) (rw (part-is _ _) at (c .before .is-record .ensures .sure (not-false _ (c .if1 .left)))))
+loop-again c =
+    let l = c .before .before .before .before .loop in (
+      omega arith,
+      below-suc (l .d) (l .inv .1) (rw (part-is _ _) at (c .before .is-record .ensures .sure (not-false _ (c .if1 .left)))),
+    )
 
 returns-2 : tie.Need-returns-2 Inv-loop μ-loop
-returns-2 c = let l = c .before .loop in let e : l .d ≡ c .before .before .before .args .n = omega arith in says-true (rw e at (l .inv .1))
+returns-2 c =
+    let l = c .before .loop in
+    let e : l .d ≡ c .before .before .before .args .n = omega arith in
+    says-true (rw e at (l .inv .1))
 
 pub are-records-spec : {M : Type 1} → statement M
 are-records-spec =

@@ -60,10 +60,15 @@ loop-less c = omega arith
 
 loop-again : tie.Need-loop-again Inv-loop μ-loop
 unfolding changeOk
-loop-again c = let l = c .before .before .before .before .before .loop in (omega arith, below-suc (l .i) (l .inv .1) (sym (c .before .change-words-ok .ensures) ∙ not-false _ (c .if1 .left)))
+loop-again c =
+    let l = c .before .before .before .before .before .loop in
+    (omega arith, below-suc (l .i) (l .inv .1) (sym (c .before .change-words-ok .ensures) ∙ not-false _ (c .if1 .left)))
 
 returns-2 : tie.Need-returns-2 Inv-loop μ-loop
-returns-2 c = let l = c .before .loop in let e : l .i ≡ c .before .before .before .args .n = omega arith in says-true (rw e at (l .inv .1))
+returns-2 c =
+    let l = c .before .loop in
+    let e : l .i ≡ c .before .before .before .args .n = omega arith in
+    says-true (rw e at (l .inv .1))
 
 pub are-changes-spec : {M : Type 1} → statement M
 are-changes-spec =

@@ -36,7 +36,9 @@ loop-less : tie.Need-loop-less Inv-loop μ-loop
 loop-less c = omega arith
 
 loop-again : tie.Need-loop-again Inv-loop μ-loop
-loop-again c = let l = c .before .loop in (omega arith, length-set (l .t) _ _ ∙ l .inv .1, numbers-more _ _ _ (l .i) _ _ (l .inv .2) (omega arith) refl)
+loop-again c =
+    let l = c .before .loop in
+    (omega arith, length-set (l .t) _ _ ∙ l .inv .1, numbers-more _ _ _ (l .i) _ _ (l .inv .2) (omega arith) refl)
 
 same-length : tie.Need-same-length Inv-loop μ-loop
 same-length c = c .before .loop .inv .1

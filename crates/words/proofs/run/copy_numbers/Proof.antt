@@ -45,7 +45,13 @@ loop-less : tie.Need-loop-less Inv-loop μ-loop
 loop-less c = omega arith
 
 loop-again : tie.Need-loop-again Inv-loop μ-loop
-loop-again c = let l = c .before .before .loop in let s = c .before .before .before in (omega arith, length-set (l .t) _ _ ∙ l .inv .1, numbers-more _ _ _ (l .i) _ _ (l .inv .2) (omega arith) (l .inv .2 .kept (s .args .from + l .i) (λ p q. s .pre .2 (s .args .from + l .i) p (omega arith) (omega arith) (omega arith))))
+loop-again c =
+    let l = c .before .before .loop in
+    let s = c .before .before .before in (
+      omega arith,
+      length-set (l .t) _ _ ∙ l .inv .1,
+      numbers-more _ _ _ (l .i) _ _ (l .inv .2) (omega arith) (l .inv .2 .kept (s .args .from + l .i) (λ p q. s .pre .2 (s .args .from + l .i) p (omega arith) (omega arith) (omega arith))),
+    )
 
 same-length : tie.Need-same-length Inv-loop μ-loop
 same-length c = c .before .loop .inv .1
