@@ -1,22 +1,22 @@
 -- Document 01's conditions on a device and those on its record's words are the same. Assumes nothing.
 use mathlib.Core.Path.{_≡_, refl, sym, ap, _∙_, subst}
-use mathlib.Core.Bool.{Bool, true, false}
-use mathlib.Core.Logic.{_⊎_, inl, inr, ⊎-elim}
+use mathlib.Core.Bool.{true}
+use mathlib.Core.Logic.{_⊎_, ⊎-elim}
 use mathlib.Core.List.{List, []}
 use mathlib.Core.Option.{Option, none, some}
 use Prim.Native.Nat.{ℕ, zero, suc, _+_, _*_, _-_, _≤_, _<_}
 use native.Mathlib.Omega.{arith}
 use lib.ListN.{length, getD, getElem?, drop, length-drop}
-use Rattle.protocol.specs.Machine.{given, gives, asked, Round, Item, Device}
+use Rattle.protocol.specs.Machine.{given, gives, asked, Round, Item}
 use Rattle.protocol.specs.Fits.{FitsDevice, numbers, numberAt, lastOf, isPrefix}
 use Rattle.sheet.specs.Sheet.{sheet}
-use Rattle.words.specs.Layout.{ROUND, ROUND·CHANGES, ITEM, ITEM·NUMBERS, PREFIX, SEGMENT, ASKED, LAST, TAKEN, CHANNEL, REQUEST, CONNECTION, COVERED, PENDING·LENGTH, WAITING·LENGTH, ITEMS·LENGTH, RECEIVED, PENDING, WAITING, ITEMS, RECORD}
+use Rattle.words.specs.Layout.{ROUND, ITEM, ITEM·NUMBERS, PREFIX, ASKED, TAKEN, CHANNEL, PENDING·LENGTH, WAITING·LENGTH, ITEMS·LENGTH, RECEIVED, PENDING, WAITING, ITEMS, RECORD}
 use Rattle.words.proofs.Places.{lt-or-ge}
 use Rattle.words.proofs.Tests.{true-false}
 use Rattle.record.specs.Reading.{queue, roundAt, itemAt, bufferOf, receivedAt, linkOf, deviceOf, channelOf, connectionOf}
 use Rattle.record.specs.Valid.{ValidItem, ValidRecord, IsRecord}
-use Rattle.record.specs.Conditions.{Singles, Lengths, Channels, Requests, GoodItem, DueKind, DueItem, GoodPending, GoodWaiting, Sheets}
-use Rattle.record.proofs.Queues.{queue-length, queue-at, queue-past, queue-drop, same-lengths, same-entries}
+use Rattle.record.specs.Conditions.{Singles, Lengths, Channels, Requests, DueItem, GoodPending, GoodWaiting, Sheets}
+use Rattle.record.proofs.Queues.{queue-length, queue-at, queue-past, queue-drop, same-entries}
 use Rattle.record.proofs.Same.{queue-same}
 use Rattle.record.proofs.Meanings.{channel-off, channel-asked, not-established, is-not-established, channel-established, connection-live, connection-stale, not-stale, is-not-stale, request-there, is-request, empty-queue, queue-empty, prefix-kind, kind-prefix, gives-is, numbers-are, number-is}
 

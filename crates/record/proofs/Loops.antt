@@ -3,12 +3,9 @@ use mathlib.Core.Path.{_≡_, refl, _∙_, fun-ext}
 use mathlib.Core.Logic.{⊎-elim}
 use mathlib.Core.List.{List}
 use Prim.Native.Nat.{ℕ, _+_, _*_}
-use lib.Dec.{ltb}
 use borrow.Author.Tests.{lt-ltb, le-ltb}
 use Rattle.cells.specs.Cells.{joined, applied}
-use Rattle.cells.specs.declared.Cell.{Cell}
 use Rattle.cells.specs.declared.Cell.the-variants.{Blank}
-use Rattle.cells.specs.declared.Change.{Change}
 use Rattle.cells.specs.declared.Change.the-variants.{Nothing}
 use Rattle.words.specs.Layout.{CELL, CHANGE}
 use Rattle.words.specs.Place.{Place, cellPlace, changePlace, cellAt, changeAt, Filled}

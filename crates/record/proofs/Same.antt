@@ -1,22 +1,19 @@
 -- Where words stay, what they say stays, and they stay valid. Assumes nothing.
-use mathlib.Core.Path.{_≡_, refl, sym, ap, _∙_, subst, fun-ext}
-use mathlib.Core.Bool.{Bool, true, false}
-use mathlib.Core.Logic.{_⊎_, inl, inr, ⊎-elim}
+use mathlib.Core.Path.{_≡_, refl, sym, ap, _∙_, fun-ext}
+use mathlib.Core.Logic.{_⊎_, ⊎-elim}
 use mathlib.Core.List.{List, [], _∷_, _++_}
 use mathlib.Core.Option.{some}
 use Prim.Native.Nat.{ℕ, zero, suc, _+_, _*_, _-_, _≤_, _<_}
 use native.Mathlib.Omega.{arith}
-use native.Mathlib.Nat.{mul-le-mul-left}
-use lib.ListN.{length, getD}
+use lib.ListN.{getD}
 use borrow.Author.Tests.{lt-ltb, le-ltb}
 use Rattle.cells.specs.declared.Cell.the-variants.{Blank}
 use Rattle.cells.specs.declared.Change.the-variants.{Nothing}
-use Rattle.protocol.specs.Machine.{Round, Item}
-use Rattle.sheet.specs.Sheet.{sheet}
-use Rattle.words.specs.Layout.{CELL, CHANGE, QUEUE, ROUND, ROUND·CHANGES, ITEM, ITEM·NUMBERS, ITEM·PLACES, PREFIX, SEGMENT, RECEIVED, ITEMS, RECORD}
+use Rattle.protocol.specs.Machine.{Item}
+use Rattle.words.specs.Layout.{CHANGE, ROUND, ROUND·CHANGES, ITEM, ITEM·NUMBERS, ITEM·PLACES, SEGMENT, RECEIVED, ITEMS, RECORD}
 use Rattle.words.specs.Place.{Place, cellPlace, changePlace, Valid, Filled}
 use Rattle.words.proofs.Places.{Local, Same, lt-or-ge, place-below, cell-local, change-local}
-use Rattle.record.specs.Reading.{below, placesAt, sheetAt, changesAt, queue, roundAt, numbersAt, givenAt, givenBy, itemOf, itemAt, bufferOf, receivedAt}
+use Rattle.record.specs.Reading.{below, placesAt, queue, roundAt, numbersAt, givenAt, givenBy, itemOf, itemAt, bufferOf, receivedAt}
 use Rattle.record.specs.Valid.{InItem, InUse, ValidItem, ValidRecord}
 
 -- Two readings that are cut at the same number agree where they agree below it.

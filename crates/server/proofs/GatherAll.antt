@@ -12,17 +12,16 @@ use Rattle.cells.specs.declared.Change.{Change}
 use Rattle.cells.specs.declared.Change.the-variants.{Nothing}
 use Rattle.protocol.specs.Machine.{Device, Round, later, choose, isHeld, joinRounds, lastNumber, roundsAt, allRounds}
 use Rattle.sheet.specs.Sheet.{sheet}
-use Rattle.words.specs.Layout.{MOST·PUSHES, CHANGE, ITEM, ITEM·KIND, ITEM·NUMBERS, ITEM·PLACES, SEGMENT, WAITING·LENGTH, PENDING·LENGTH, ROUND, WAITING, PENDING, CONNECTION, RECORD, RECORDS, DEVICES, CELLS}
+use Rattle.words.specs.Layout.{MOST·PUSHES, CHANGE, ITEM, ITEM·KIND, ITEM·NUMBERS, ITEM·PLACES, SEGMENT, WAITING·LENGTH, PENDING·LENGTH, ROUND, WAITING, CONNECTION, RECORD, RECORDS, DEVICES, CELLS}
 use Rattle.words.specs.Place.{changePlace, Filled, Numbers, Valid}
 use Rattle.words.proofs.Places.{Same, lt-or-ge, set-kept, set-new, change-local}
-use Rattle.record.specs.Reading.{changesAt, queue, roundAt, givenBy, connectionOf, linkOf, deviceOf}
+use Rattle.record.specs.Reading.{queue, roundAt, givenBy, connectionOf, linkOf, deviceOf}
 use Rattle.record.specs.Valid.{IsRecord}
-use Rattle.record.specs.Conditions.{GoodPending, GoodWaiting}
 use Rattle.record.proofs.Same.{places-same, places-valid}
 use Rattle.record.proofs.Queues.{queue-length}
 use Rattle.record.proofs.Loops.{cleared}
 use Rattle.record.proofs.Conditions.{is-singles, is-lengths, are-pending, are-waiting}
-use Rattle.table.specs.Table.{reading, recordAt, IsTable}
+use Rattle.table.specs.Table.{reading, recordAt}
 use Rattle.table.proofs.Tables.{device-at, record-of}
 use Rattle.server.specs.Gather.{roundsOf, RecordReady, GatheredOne, TableReady, SegmentReady, Gathered}
 

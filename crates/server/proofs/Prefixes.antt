@@ -1,10 +1,9 @@
 -- What `make_prefix` makes of an item's words. Assumes nothing.
-use mathlib.Core.Path.{_≡_, refl, sym, ap, _∙_, subst}
+use mathlib.Core.Path.{_≡_, sym, ap, _∙_, subst}
 use mathlib.Core.List.{List}
 use Prim.Native.Nat.{ℕ, _+_, _*_, _-_, _≤_, _<_}
 use native.Mathlib.Omega.{arith}
 use lib.ListN.{length, getD, set, length-set}
-use Rattle.cells.specs.declared.Cell.{Cell}
 use Rattle.cells.specs.declared.Cell.the-variants.{Blank}
 use Rattle.protocol.specs.Machine.{Item}
 use Rattle.sheet.specs.Sheet.{sheet}
@@ -12,10 +11,9 @@ use Rattle.words.specs.Layout.{MOST·PUSHES, CELL, ITEM, ITEM·KIND, ITEM·NUMB
 use Rattle.words.specs.Place.{cellPlace, cellAt, Across, Filled, Numbers, Valid}
 use Rattle.words.proofs.Places.{Same, set-kept, set-new, cell-local}
 use Rattle.record.specs.Reading.{below, placesAt, sheetAt, numbersAt, itemOf, itemAt}
-use Rattle.record.specs.Valid.{ValidItem}
 use Rattle.record.proofs.Same.{below-same, places-same, places-valid, places-filled}
 use Rattle.record.proofs.Conditions.{is-singles}
-use Rattle.table.specs.Table.{recordAt, reading, IsTable}
+use Rattle.table.specs.Table.{recordAt, reading}
 use Rattle.table.proofs.Tables.{record-of}
 use Rattle.table.proofs.Part.{record-word}
 use Rattle.server.specs.Gather.{TableReady}

@@ -1,6 +1,6 @@
 // What a batch takes: the first rounds that wait on each connection, joined into one segment. Nothing is changed yet.
 ghost use mathlib.Core.Path.{_≡_};
-ghost use Prim.Native.Nat.{ℕ, _+_, _*_, _≤_, _<_, min};
+ghost use Prim.Native.Nat.{_+_, _*_, _≤_, _<_, min};
 ghost use lib.ListN.{length, getD};
 ghost use Rattle.protocol.specs.Machine.{choose, isHeld};
 ghost use Rattle.words.specs.Layout.{ITEM, RECORD, STALE};

@@ -6,8 +6,7 @@ use Prim.Native.Nat.{ℕ, _+_, _*_, _≤_, _<_}
 use native.Mathlib.Omega.{arith}
 use lib.ListN.{length, getD, List·getD-eq-default}
 use Rattle.cells.specs.declared.Cell.the-variants.{Blank}
-use Rattle.protocol.specs.Machine.{Table, Result, Device, freshDevice}
-use Rattle.protocol.specs.Fits.{Fits, FitsDevice}
+use Rattle.protocol.specs.Machine.{Table, freshDevice}
 use Rattle.sheet.specs.Sheet.{sheet}
 use Rattle.sheet.specs.declared.Answer.{Answer}
 use Rattle.sheet.proofs.OneAnswer.{meaning-one, same-answer}
@@ -15,12 +14,12 @@ use Rattle.words.specs.Layout.{CELL, TAKEN, RECORD, DEVICES, CELLS, SHEET, RECO
 use Rattle.words.specs.Place.{cellPlace}
 use Rattle.words.proofs.Places.{Same, lt-or-ge, cell-local}
 use Rattle.record.specs.Reading.{below, sheetAt, deviceOf}
-use Rattle.record.specs.Valid.{InUse, ValidRecord}
+use Rattle.record.specs.Valid.{InUse}
 use Rattle.record.proofs.Same.{below-same, places-same, places-valid, in-record}
 use Rattle.record.proofs.Read.{in-use-back, same-device, same-valid}
-use Rattle.table.specs.Table.{need, recordAt, reading, InTable, ValidTable, IsTable}
+use Rattle.table.specs.Table.{recordAt, reading, InTable, ValidTable, IsTable}
 use Rattle.table.specs.Promise.{Stepped}
-use Rattle.table.specs.Claims.{Agree, Alike, Only·words·in·use}
+use Rattle.table.specs.Claims.{Agree, Only·words·in·use}
 use Rattle.table.proofs.Part.{record-length, record-word}
 use Rattle.table.proofs.Once.{stable}
 

@@ -1,11 +1,10 @@
 -- A step on a device's record is the machine's step on the table. Assumes nothing.
 use mathlib.Core.Path.{_≡_, refl, sym, ap, _∙_}
-use mathlib.Core.Bool.{Bool, true, false}
+use mathlib.Core.Bool.{Bool, true}
 use mathlib.Core.List.{List}
-use Prim.Native.Nat.{ℕ, _+_, _*_, _≤_, _<_}
-use native.Mathlib.Omega.{arith}
+use Prim.Native.Nat.{ℕ, _≤_, _<_}
 use lib.Dec.{ltb}
-use lib.ListN.{length, getD}
+use lib.ListN.{getD}
 use borrow.Author.Tests.{lt-ltb, le-ltb}
 use Rattle.protocol.specs.declared.Refusal.the-variants.{NoTable, NoDevice}
 use Rattle.protocol.specs.Machine.{Table, Result, Device, Local, Step, fine, tell, put, settle, at, step}
@@ -13,14 +12,13 @@ use Rattle.sheet.specs.Sheet.{sheet}
 use Rattle.sheet.specs.Answer.{meaning}
 use Rattle.sheet.specs.declared.Answer.{Answer}
 use Rattle.sheet.specs.declared.Answer.the-variants.{Refused}
-use Rattle.words.specs.Layout.{TAKEN, RECORD, DEVICES, CELLS, RECORDS}
+use Rattle.words.specs.Layout.{TAKEN, DEVICES, CELLS}
 use Rattle.record.specs.Reading.{deviceOf}
-use Rattle.record.specs.Valid.{IsRecord}
 use Rattle.device.specs.Did.{Did, answerOf, deviceAfter, stepOf, named}
 use Rattle.device.specs.declared.step.Op.{Op}
 use Rattle.device.specs.declared.step.Op.the-variants.{Push}
-use Rattle.table.specs.Table.{recordAt, reading, ValidTable, IsTable}
-use Rattle.table.specs.Promise.{Became, RefusedWith, Stepped}
+use Rattle.table.specs.Table.{recordAt, reading, IsTable}
+use Rattle.table.specs.Promise.{Stepped}
 use Rattle.table.proofs.Part.{Replaced}
 use Rattle.table.proofs.Records.{replaced-says, replaced-valid, replaced-kept, put-same}
 use Rattle.table.proofs.Tables.{device-at, taken-at}

@@ -1,8 +1,8 @@
 -- The words of a table are given by what it says, so a call has one outcome; and it depends on no word but those in use. Assumes nothing.
-use mathlib.Core.Path.{_≡_, refl, sym, ap, _∙_, subst}
+use mathlib.Core.Path.{_≡_, sym, ap, _∙_}
 use mathlib.Core.Logic.{_⊎_, ⊎-elim}
 use mathlib.Core.List.{List, List-discrete}
-use Prim.Native.Nat.{ℕ, zero, suc, _+_, _*_, _≤_, _<_}
+use Prim.Native.Nat.{ℕ, zero, suc, _<_}
 use native.Mathlib.Decide.{ℕ-discrete}
 use native.Mathlib.Omega.{arith}
 use lib.ListN.{length, getD}
@@ -13,10 +13,9 @@ use Rattle.protocol.specs.declared.Refusal.the-variants.{NoTable, OutsideAllowe
 use Rattle.protocol.specs.Machine.{Table}
 use Rattle.protocol.specs.Fits.{Sizes}
 use Rattle.sheet.specs.Sheet.{sheet}
-use Rattle.sheet.specs.Answer.{meaning}
 use Rattle.sheet.specs.declared.Answer.{Answer}
 use Rattle.sheet.proofs.OneAnswer.{meaning-one, same-answer}
-use Rattle.words.specs.Layout.{TAKEN, RECORD, DEVICES, CELLS, SHEET, RECORDS}
+use Rattle.words.specs.Layout.{TAKEN, RECORD, DEVICES, CELLS, SHEET}
 use Rattle.words.specs.Place.{cellPlace}
 use Rattle.words.proofs.Places.{lt-or-ge}
 use Rattle.record.specs.Reading.{sheetAt, deviceOf}
@@ -25,7 +24,7 @@ use Rattle.record.proofs.One.{cell-one, places-words}
 use Rattle.record.proofs.OneRecord.{record-words}
 use Rattle.record.proofs.Same.{in-record}
 use Rattle.table.specs.Table.{need, recordAt, reading, InTable, ValidTable, IsTable}
-use Rattle.table.specs.Promise.{Became, RefusedWith, Stepped, Started}
+use Rattle.table.specs.Promise.{Became, RefusedWith}
 use Rattle.table.specs.Claims.{One·outcome, One·start}
 use Rattle.table.proofs.Part.{record-word}
 use Rattle.table.proofs.Tables.{device-at, taken-at}

@@ -1,24 +1,24 @@
 -- A table with one device's record replaced: what it says, that it is valid, and what it keeps. Assumes nothing.
-use mathlib.Core.Path.{_≡_, refl, sym, ap, _∙_, subst, fun-ext}
+use mathlib.Core.Path.{_≡_, refl, sym, ap, _∙_, fun-ext}
 use mathlib.Core.Bool.{Bool, true, false}
 use mathlib.Core.Logic.{_⊎_, inl, inr, ⊎-elim}
 use mathlib.Core.List.{List}
 use Prim.Native.Nat.{ℕ, _+_, _*_, _-_, _≤_, _<_}
 use native.Mathlib.Omega.{arith}
-use lib.Dec.{eqb, ltb}
+use lib.Dec.{eqb}
 use lib.ListN.{length, getD}
 use borrow.Author.Tests.{lt-ltb, le-ltb, eq-eqb, ne-eqb, eqb-true, eqb-false}
 use Rattle.cells.specs.declared.Cell.the-variants.{Blank}
-use Rattle.protocol.specs.Machine.{Table, Device, put, freshDevice}
+use Rattle.protocol.specs.Machine.{put, freshDevice}
 use Rattle.sheet.specs.Sheet.{sheet}
 use Rattle.words.specs.Layout.{CELL, TAKEN, RECORD, DEVICES, CELLS, SHEET, RECORDS}
-use Rattle.words.specs.Place.{cellPlace, Out}
+use Rattle.words.specs.Place.{cellPlace}
 use Rattle.words.proofs.Places.{Same, lt-or-ge, cell-local}
 use Rattle.record.specs.Reading.{below, sheetAt, deviceOf}
 use Rattle.record.specs.Valid.{InUse, ValidRecord}
 use Rattle.record.proofs.Same.{places-same, places-valid}
-use Rattle.table.specs.Table.{need, recordAt, reading, InTable, ValidTable}
-use Rattle.table.proofs.Part.{Replaced, record-length, record-word, other-record}
+use Rattle.table.specs.Table.{recordAt, reading, InTable, ValidTable}
+use Rattle.table.proofs.Part.{Replaced, record-word, other-record}
 
 pub eq-or-ne : (a b : ℕ) → (a ≡ b) ⊎ (a ≡ b → ⊥)
 eq-or-ne a b = go (eqb a b) refl

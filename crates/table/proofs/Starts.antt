@@ -1,6 +1,5 @@
 -- What `start` makes of a slice. Assumes nothing.
-use mathlib.Core.Path.{_≡_, refl, sym, ap, _∙_, subst, fun-ext}
-use mathlib.Core.Bool.{Bool, true, false}
+use mathlib.Core.Path.{_≡_, refl, sym, ap, _∙_, fun-ext}
 use mathlib.Core.Logic.{_⊎_, ⊎-elim}
 use mathlib.Core.List.{List}
 use Prim.Native.Nat.{ℕ, _+_, _*_, _-_, _/_, _%_, _≤_, _<_}
@@ -8,24 +7,23 @@ use native.Mathlib.Omega.{arith}
 use lib.Dec.{ltb}
 use lib.ListN.{length, getD, set, length-set}
 use borrow.Author.Tests.{lt-ltb, le-ltb}
-use Rattle.cells.specs.declared.Cell.{Cell}
 use Rattle.cells.specs.declared.Cell.the-variants.{Blank}
-use Rattle.protocol.specs.Machine.{Device, choose, fresh, freshDevice}
+use Rattle.protocol.specs.Machine.{choose, fresh, freshDevice}
 use Rattle.protocol.specs.Fits.{Sizes}
 use Rattle.sheet.specs.Sheet.{sheet, started}
 use Rattle.sheet.specs.declared.Answer.the-variants.{Done, Refused}
 use Rattle.protocol.specs.declared.Refusal.the-variants.{NoTable, OutsideAllowed}
 use Rattle.words.specs.Layout.{CELL, TAKEN, RECORD, DEVICES, CELLS, SHEET, RECORDS}
-use Rattle.words.specs.Place.{cellPlace, Filled, Kept, Out}
-use Rattle.words.proofs.Places.{Same, set-kept, set-new, lt-or-ge, below-suc, cell-local}
+use Rattle.words.specs.Place.{cellPlace, Filled}
+use Rattle.words.proofs.Places.{Same, set-kept, set-new, lt-or-ge, cell-local}
 use Rattle.record.specs.Reading.{below, sheetAt, deviceOf}
-use Rattle.record.specs.Valid.{InUse, ValidRecord}
+use Rattle.record.specs.Valid.{InUse}
 use Rattle.record.specs.Begun.{Begun}
 use Rattle.record.proofs.Same.{places-same, places-valid}
 use Rattle.record.proofs.Loops.{cleared}
 use Rattle.table.specs.Table.{need, recordAt, reading, InTable, ValidTable}
 use Rattle.table.specs.Promise.{Became, Begins, Started}
-use Rattle.table.proofs.Part.{Replaced, record-same, record-word, other-record}
+use Rattle.table.proofs.Part.{record-same, record-word}
 
 module _ (devices cells : ℕ) (xs y1 y2 : List ℕ) (Z : Sizes devices cells) (long : need devices ≤ length xs) (l1 : length y1 ≡ length xs) (l2 : length y2 ≡ length xs) (B : Begins cells xs y1 devices) (F : Filled cellPlace y1 y2 SHEET cells (λ k. Blank)) where
   y3 : List ℕ

@@ -1,18 +1,17 @@
 -- Contents are a table exactly when the header, the server's sheet and every record are right. Assumes nothing.
-use mathlib.Core.Path.{_≡_, refl, sym, ap, _∙_}
+use mathlib.Core.Path.{_≡_}
 use mathlib.Core.List.{List}
-use Prim.Native.Nat.{ℕ, _+_, _*_, _≤_, _<_}
-use native.Mathlib.Omega.{arith}
+use Prim.Native.Nat.{ℕ, _≤_, _<_}
 use lib.ListN.{length, getD}
 use Rattle.cells.specs.declared.Cell.the-variants.{Blank}
-use Rattle.protocol.specs.Machine.{Device, freshDevice}
+use Rattle.protocol.specs.Machine.{freshDevice}
 use Rattle.protocol.specs.Fits.{Sizes, Fits, FitsDevice}
 use Rattle.sheet.specs.Sheet.{sheet}
 use Rattle.words.specs.Layout.{TAKEN, DEVICES, CELLS, SHEET}
 use Rattle.words.specs.Place.{cellPlace, Valid}
 use Rattle.record.specs.Reading.{deviceOf}
-use Rattle.record.specs.Valid.{ValidRecord, IsRecord}
-use Rattle.table.specs.Table.{need, recordAt, reading, ValidTable, IsTable}
+use Rattle.record.specs.Valid.{IsRecord}
+use Rattle.table.specs.Table.{need, recordAt, reading, IsTable}
 use Rattle.table.proofs.Records.{below-in}
 
 module _ (xs : List ℕ) where

@@ -5,7 +5,7 @@ use Prim.Native.Nat.{ℕ, _*_, _≤_, _<_}
 use lib.ListN.{length, getD}
 use Rattle.protocol.specs.declared.Refusal.{Refusal}
 use Rattle.protocol.specs.declared.Refusal.the-variants.{NoTable, OutsideAllowed}
-use Rattle.protocol.specs.Machine.{Table, Result, Start, fresh, done, refused}
+use Rattle.protocol.specs.Machine.{Table, Result, fresh, done, refused}
 use Rattle.protocol.specs.Fits.{Sizes}
 use Rattle.sheet.specs.Sheet.{sheet, started}
 use Rattle.sheet.specs.Answer.{meaning}

@@ -1,6 +1,5 @@
 // start: the table of a number of devices and of cells, at first.
-ghost use mathlib.Core.Path.{_≡_};
-ghost use Prim.Native.Nat.{ℕ, _+_, _*_, _≤_, _<_};
+ghost use Prim.Native.Nat.{_+_, _*_, _≤_, _<_};
 ghost use lib.ListN.{length};
 ghost use Rattle.protocol.specs.Fits.{Sizes};
 ghost use Rattle.words.specs.Layout.{RECORD, RECORDS};

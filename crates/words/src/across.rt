@@ -1,5 +1,4 @@
 // Loops over n places that read another slice: between a device's record, the server's sheet and words that a call keeps for itself.
-ghost use mathlib.Core.Path.{_≡_};
 ghost use Prim.Native.Nat.{_+_, _*_, _≤_};
 ghost use lib.ListN.{length, getD};
 ghost use Rattle.words.specs.Layout.{CELL, CHANGE};

@@ -1,6 +1,5 @@
 -- `server::gather::gather` meets its contract: the segment begins with nothing.
 -- Assumes nothing.
-use lib.ListN.{length-set}
 use Rattle.server.proofs.GatherAll.{segment-ready, few-cells}
 use native.Mathlib.Omega.{arith}
 use borrow.Author.Needs.{needs}

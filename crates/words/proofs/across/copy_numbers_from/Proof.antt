@@ -1,7 +1,7 @@
 -- `words::across::copy_numbers_from` meets its contract: each turn stores one number more.
 -- Assumes nothing.
 use mathlib.Core.Path.{_≡_, refl, _∙_}
-use Prim.Native.Nat.{_≤_, _-_, _+_, _*_}
+use Prim.Native.Nat.{_≤_, _-_, _+_}
 use lib.ListN.{length}
 use lib.ListN.{getD, length-set}
 use Rattle.words.specs.Place.{Numbers}

@@ -1,10 +1,10 @@
 -- `words::run::apply_changes` meets its contract: the cell and the change of a turn are as they were at the start.
 -- Assumes nothing.
 use borrow.Author.Needs.{needs}
-use mathlib.Core.Path.{_≡_, refl, ap, _∙_}
+use mathlib.Core.Path.{_≡_, refl, _∙_}
 use Prim.Native.Nat.{_≤_, _-_, _+_, _*_}
 use native.Mathlib.Omega.{arith}
-use lib.ListN.{length, getD}
+use lib.ListN.{length}
 use Rattle.words.specs.Layout.{CELL, CHANGE}
 use mathlib.Core.Path.{ap₂}
 use Rattle.words.specs.Place.{cellAt, changeAt, cellPlace, changePlace, Filled}

@@ -1,10 +1,9 @@
 -- `words::run::clear_changes` meets its contract: each turn stores one place more.
 -- Assumes nothing.
-use mathlib.Core.Path.{_≡_, refl, ap, _∙_}
-use Prim.Native.Nat.{_≤_, _-_, _+_, _*_}
+use mathlib.Core.Path.{_≡_, refl, _∙_}
+use Prim.Native.Nat.{_≤_, _-_}
 use native.Mathlib.Omega.{arith}
-use lib.ListN.{length, getD}
-use Rattle.words.specs.Layout.{CELL, CHANGE}
+use lib.ListN.{length}
 use Rattle.words.specs.Place.{changePlace, Filled}
 use Rattle.words.proofs.Places.{change-local, filled-none, filled-more}
 use Rattle.cells.specs.declared.Change.the-variants.{Nothing}

@@ -1,10 +1,9 @@
 -- `words::run::copy_numbers` meets its contract: each turn stores one number more.
 -- Assumes nothing.
-use mathlib.Core.Path.{_≡_, refl, ap, _∙_}
-use Prim.Native.Nat.{_≤_, _-_, _+_, _*_}
+use mathlib.Core.Path.{_≡_, refl, _∙_}
+use Prim.Native.Nat.{_≤_, _-_, _+_}
 use native.Mathlib.Omega.{arith}
 use lib.ListN.{length, getD}
-use Rattle.words.specs.Layout.{CELL, CHANGE}
 use Rattle.words.specs.Place.{Numbers}
 use Rattle.words.proofs.Places.{numbers-none, numbers-more}
 use lib.ListN.{length-set}
