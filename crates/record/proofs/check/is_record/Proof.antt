@@ -2,7 +2,8 @@
 -- Assumes nothing.
 use borrow.Author.Tests.{not-true, not-false}
 use Rattle.words.proofs.Tests.{says-false, decides-iff}
-use Rattle.record.proofs.Conditions.{record-is, is-singles, is-lengths, are-channels, are-requests, are-sheets, are-pending, are-waiting, are-items}
+use Rattle.record.proofs.Fitting.{record-is}
+use Rattle.record.proofs.Conditions.{is-singles, is-lengths, are-channels, are-requests, are-sheets, are-pending, are-waiting, are-items}
 use native.Mathlib.Omega.{arith}
 use borrow.Author.Needs.{needs}
 use Rattle.record.proofs.check.is_record.Statement.{statement}
