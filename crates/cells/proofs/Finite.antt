@@ -1,10 +1,10 @@
 -- Finite values and their patterns: what the proofs of `is_finite`, `f64_of_bits` and `bits_of_f64` cite, and the round trips. Assumes nothing.
-use mathlib.Core.Path.{_≡_, refl, sym, ap, _∙_, subst}
+use mathlib.Core.Path.{_≡_, refl, sym, ap, _∙_}
 use mathlib.Core.Bool.{Bool, true, false, not, _&&_, cond, true≢false, false≢true}
 use Prim.Native.Nat.{ℕ, zero, suc, _/_, _%_, _^_, _<_, _+_}
 use lib.Dec.{T, eqb}
-use lib.Ieee.{Float, nan, inf, fin, binary64, prec, low, hid, top, ones, lt, isNan, nanBits, odd, ofFields, ofBits, toBits, fits}
-use lib.Ieee.Bits.{ofBits-toBits, toBits-ofBits, toBits-lt, ofBits-fits}
+use lib.Ieee.{Float, nan, inf, fin, binary64, prec, low, hid, top, lt, isNan, nanBits, odd, ofFields, ofBits, toBits, fits}
+use lib.Ieee.Bits.{ofBits-toBits, toBits-ofBits, toBits-lt}
 use lib.Dec.{leb}
 use Rattle.cells.specs.Finite.{finite, finiteWord}
 

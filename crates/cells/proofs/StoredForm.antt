@@ -1,23 +1,22 @@
 -- The laws of the stored form: words and values are one to one, and what the operations give still fits. Assumes nothing.
-use mathlib.Core.Path.{_≡_, refl, sym, ap, _∙_, subst}
+use mathlib.Core.Path.{_≡_, refl, sym, ap, _∙_}
 use mathlib.Core.Bool.{Bool, true, false, _&&_, false≢true}
-use Prim.Native.Nat.{ℕ, zero, suc, _^_, _<_, _≤_, _-_}
+use Prim.Native.Nat.{ℕ, zero, suc, _^_, _<_, _-_}
 use native.Mathlib.Omega.{arith}
 use borrow.Author.Tests.{lt-ltb, ltb-true, eqb-true}
-use lib.Dec.{T, eqb, ltb}
+use lib.Dec.{ltb}
 use lib.IntN.{ℤ}
 use lib.Ieee.{binary64, ofBits, fits}
 use lib.Ieee.Bits.{ofBits-fits}
 use mir.Syntax.{w64}
-use mir.Val.{SFits, toZ}
+use mir.Val.{SFits}
 use mir.ValLaws.{toZ-fits}
-use Rattle.cells.specs.Wrap.{wordOf, wrapAdd}
-use Rattle.cells.specs.Finite.{finite, finiteWord}
-use Rattle.cells.specs.Cells.{added, updated, applied, changeOf, joined}
+use Rattle.cells.specs.Wrap.{wordOf}
+use Rattle.cells.specs.Finite.{finiteWord}
+use Rattle.cells.specs.Cells.{added, applied, joined}
 use Rattle.cells.specs.Stored.{CellFits, ChangeFits, cellFinite, changeFinite, cellKind, cellPayload, changeKind, changePayload, cellWordsOk, changeWordsOk, cellOf, changeFrom}
 use Rattle.cells.specs.declared.Cell.{Cell}
 use Rattle.cells.specs.declared.Cell.the-variants.{Blank, Count, Measure}
-use Rattle.cells.specs.declared.Update.{Update}
 use Rattle.cells.specs.declared.Change.{Change}
 use Rattle.cells.specs.declared.Change.the-variants.{Nothing, Set, Add}
 use Rattle.cells.proofs.Words.{word-lt, word-toZ, toZ-word}

@@ -2,7 +2,7 @@
 -- Assumes nothing.
 use mathlib.Core.Path.{_≡_, refl, sym, ap, _∙_}
 use mathlib.Core.Bool.{Bool, true, false}
-use Prim.Native.Nat.{ℕ, suc, _-_, _%_, _^_, _≤_, _<_}
+use Prim.Native.Nat.{ℕ, suc, _-_, _^_, _≤_, _<_}
 use native.Mathlib.Omega.{arith}
 use borrow.Author.Tests.{ltb-true, ltb-false}
 use lib.Dec.{T, ltb, leb·zero}
@@ -10,7 +10,7 @@ use lib.IntN.{ℤ, pos, negsuc, natAbs}
 use lib.Signed.{nonNeg, leZ, mag}
 use mir.Syntax.{w64}
 use mir.Val.{SFits, Fits, ofZ, toZ, sel}
-use mir.ValLaws.{toZ-ofZ, ofZ-toZ, ofZ-fits, toZ-fits, toZ-pos}
+use mir.ValLaws.{toZ-ofZ, ofZ-toZ, toZ-fits, toZ-pos}
 use Rattle.cells.specs.Wrap.{wordOf}
 
 -- The sign of a word. A signed local holds its word, so every fact here is about the word.

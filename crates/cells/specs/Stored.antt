@@ -3,7 +3,6 @@
 -- Payload: 0 for blank and nothing, else the number's two's complement or the measured number's bits.
 use Prim.Native.Nat.{ℕ, zero, suc, _^_}
 use mathlib.Core.Bool.{Bool, true, false, _&&_}
-use mathlib.Core.Path.{_≡_}
 use lib.Dec.{T, eqb, ltb}
 use lib.Ieee.{binary64, toBits, ofBits, fits}
 use mir.Syntax.{w64}

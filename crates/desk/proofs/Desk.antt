@@ -1,8 +1,9 @@
 -- Every starred line holds, by computing. Assumes nothing.
 use mathlib.Core.Path.{refl}
 use Rattle.cells.specs.Wrap.{wrapAdd}
+use Rattle.protocol.specs.Machine.{step, read·at, push·at, send·at, ask·at, receive·at, pull·at, accept·at}
 use Rattle.desk.specs.Desk.{Each, desk}
 
 pub desk-holds : Each desk
-unfolding wrapAdd
-desk-holds = (refl, (refl, (refl, (refl, (refl, (refl, tt))))))
+unfolding wrapAdd step read·at push·at send·at ask·at receive·at pull·at accept·at
+desk-holds = (refl, (refl, (refl, (refl, (refl, (refl, ((refl, refl, refl), ((refl, refl, refl), ((refl, refl, refl), tt)))))))))

@@ -1,5 +1,5 @@
 -- What `begin` makes of a record. Assumes nothing.
-use mathlib.Core.Path.{_≡_, refl, sym, ap, _∙_}
+use mathlib.Core.Path.{_≡_, _∙_}
 use mathlib.Core.List.{List}
 use Prim.Native.Nat.{ℕ, _+_, _*_, _≤_, _<_}
 use native.Mathlib.Omega.{arith}
@@ -9,9 +9,9 @@ use Rattle.cells.specs.declared.Change.the-variants.{Nothing}
 use Rattle.protocol.specs.Machine.{freshDevice}
 use Rattle.sheet.specs.Sheet.{sheet}
 use Rattle.words.specs.Layout.{CELL, CHANGE, ROUND, ITEM, LAST, TAKEN, CHANNEL, REQUEST, CONNECTION, COVERED, PENDING·LENGTH, WAITING·LENGTH, ITEMS·LENGTH, KNOWN, TRANSACTION, BUFFERED, RECEIVED, PENDING, WAITING, ITEMS, RECORD}
-use Rattle.words.specs.Place.{cellPlace, changePlace, Filled, Numbers, Out}
+use Rattle.words.specs.Place.{cellPlace, changePlace, Filled, Numbers}
 use Rattle.words.proofs.Places.{Same, set-kept, set-new, cell-local, change-local}
-use Rattle.record.specs.Reading.{sheetAt, changesAt, queue, roundAt, itemAt, bufferOf, receivedAt, channelOf, connectionOf, requestOf, linkOf, deviceOf}
+use Rattle.record.specs.Reading.{sheetAt, changesAt, roundAt, itemAt, bufferOf, receivedAt, channelOf, connectionOf, requestOf, linkOf, deviceOf}
 use Rattle.record.specs.Valid.{InUse, ValidRecord}
 use Rattle.record.specs.Begun.{Begun}
 use Rattle.record.proofs.Same.{places-same, places-valid}

@@ -5,5 +5,7 @@ pub mod One
 pub mod OneRecord
 pub mod Read
 pub mod Meanings
+pub mod Said
+pub mod Fitting
 pub mod Conditions
 pub mod Begins

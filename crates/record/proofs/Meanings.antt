@@ -1,25 +1,20 @@
 -- What single words, items and queues of rounds mean for the conditions on a device. Assumes nothing.
-use mathlib.Core.Path.{_≡_, refl, sym, ap, _∙_, subst}
-use mathlib.Core.Bool.{Bool, true, false, true≢false, false≢true}
-use mathlib.Core.Logic.{_⊎_, inl, inr, ⊎-elim}
-use mathlib.Core.List.{List, [], _∷_, map}
-use mathlib.Core.Option.{Option, none, some}
+use mathlib.Core.Path.{_≡_, refl, sym, ap, _∙_}
+use mathlib.Core.Bool.{true, false}
+use mathlib.Core.List.{List, []}
+use mathlib.Core.Option.{some}
 use Prim.Native.Nat.{ℕ, zero, suc, _+_, _*_, _-_, _≤_, _<_}
 use native.Mathlib.Omega.{arith}
-use lib.Dec.{ltb}
-use lib.ListN.{length, getD, getElem?, drop}
+use lib.ListN.{length, getD}
 use borrow.Author.Tests.{lt-ltb}
-use Rattle.protocol.specs.Machine.{given, gives, Channel, off, asked, established, Connection, unheld, live, stale, isEstablished, isStale, Round, Item, prefix, segment, Link, Device}
-use Rattle.protocol.specs.Fits.{FitsDevice, numbers, numberAt, lastOf, isPrefix}
+use Rattle.protocol.specs.Machine.{given, gives, off, asked, established, live, stale, isEstablished, isStale}
+use Rattle.protocol.specs.Fits.{numbers, numberAt, isPrefix}
 use Rattle.sheet.specs.Sheet.{sheet}
-use Rattle.words.specs.Layout.{ROUND, ROUND·CHANGES, ITEM, ITEM·NUMBERS, PREFIX, SEGMENT, ASKED, ESTABLISHED, LIVE, STALE, LAST, TAKEN, CHANNEL, REQUEST, CONNECTION, COVERED, PENDING·LENGTH, WAITING·LENGTH, ITEMS·LENGTH, RECEIVED, PENDING, WAITING, ITEMS, RECORD}
-use Rattle.words.proofs.Places.{lt-or-ge}
+use Rattle.words.specs.Layout.{ROUND, ITEM·NUMBERS, PREFIX, ASKED, ESTABLISHED, LIVE, STALE}
 use Rattle.words.proofs.Tests.{true-false}
-use Rattle.record.specs.Reading.{below, queue, roundAt, numbersAt, givenAt, givenBy, itemOf, itemAt, bufferOf, receivedAt, channelOf, connectionOf, requestOf, linkOf, deviceOf}
-use Rattle.record.specs.Valid.{ValidItem, ValidRecord, IsRecord}
-use Rattle.record.specs.Conditions.{Singles, Lengths, Channels, Requests, GoodItem, DueKind, DueItem, GoodPending, GoodWaiting, Sheets}
-use Rattle.record.proofs.Queues.{queue-length, queue-entry, queue-at, queue-past, queue-drop, queue-map, same-lengths, same-entries}
-use Rattle.record.proofs.Same.{queue-same}
+use Rattle.record.specs.Reading.{queue, roundAt, numbersAt, givenAt, givenBy, itemOf, itemAt, channelOf, connectionOf, requestOf}
+use Rattle.record.specs.Valid.{ValidItem}
+use Rattle.record.proofs.Queues.{queue-length, queue-entry, queue-map}
 
 -- The words of a channel, a connection and a request.
 pub channel-off : (w : ℕ) → channelOf w ≡ off → w ≡ 0

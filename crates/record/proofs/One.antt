@@ -1,29 +1,21 @@
 -- Valid words are given by what they say: two records that say the same have the same words in use. Assumes nothing.
-use mathlib.Core.Path.{_≡_, refl, sym, ap, ap₂, _∙_, subst}
-use mathlib.Core.Bool.{Bool, true, false, false≢true, true≢false}
-use mathlib.Core.Logic.{_⊎_, inl, inr, ⊎-elim}
+use mathlib.Core.Path.{_≡_, refl, sym, ap, _∙_, subst}
+use mathlib.Core.Bool.{true}
 use mathlib.Core.List.{List}
-use mathlib.Core.Option.{Option, none, some}
+use mathlib.Core.Option.{none}
 use Prim.Native.Nat.{ℕ, zero, suc, _+_, _*_, _-_, _/_, _%_, _≤_, _<_}
 use native.Mathlib.Nat.{mul-comm, mod-lt, div-add-mod', div-lt-iff-lt-mul}
 use native.Mathlib.Omega.{arith}
-use lib.Dec.{ltb}
-use lib.ListN.{length, getD}
+use lib.ListN.{getD}
 use borrow.Author.Tests.{lt-ltb}
-use Rattle.cells.specs.declared.Cell.{Cell}
 use Rattle.cells.specs.declared.Cell.the-variants.{Blank}
-use Rattle.cells.specs.declared.Change.{Change}
 use Rattle.cells.specs.declared.Change.the-variants.{Nothing}
 use Rattle.cells.specs.Stored.{cellKind, cellPayload, changeKind, changePayload}
 use Rattle.cells.proofs.StoredForm.{words-cell, words-change}
-use Rattle.protocol.specs.Machine.{choose, Channel, off, asked, established, Connection, unheld, live, stale, Round, Item, prefix, segment, Link, Device}
-use Rattle.sheet.specs.Sheet.{sheet}
-use Rattle.words.specs.Layout.{CELL, CHANGE, QUEUE, ROUND, ROUND·CHANGES, ITEM, ITEM·NUMBERS, ITEM·PLACES, PREFIX, SEGMENT, LAST, TAKEN, CHANNEL, REQUEST, CONNECTION, COVERED, PENDING·LENGTH, WAITING·LENGTH, ITEMS·LENGTH, KNOWN, TRANSACTION, BUFFERED, RECEIVED, PENDING, WAITING, ITEMS, RECORD}
+use Rattle.words.specs.Layout.{ITEM·NUMBERS, ITEM·PLACES, PREFIX, SEGMENT}
 use Rattle.words.specs.Place.{Place, cellPlace, changePlace, cellAt, cellOk, changeAt, changeOk, Valid}
-use Rattle.words.proofs.Places.{lt-or-ge}
-use Rattle.record.specs.Reading.{below, placesAt, sheetAt, changesAt, queue, roundAt, numbersAt, givenAt, givenBy, itemOf, itemAt, bufferOf, receivedAt, channelOf, connectionOf, requestOf, linkOf, deviceOf}
-use Rattle.record.specs.Valid.{InItem, InUse, ValidItem, ValidRecord}
-use Rattle.record.proofs.Queues.{same-lengths, same-entries}
+use Rattle.record.specs.Reading.{below, placesAt, sheetAt, changesAt, numbersAt, givenAt, givenBy, itemOf, itemAt}
+use Rattle.record.specs.Valid.{InItem, ValidItem}
 
 -- A place whose valid words are given by its value.
 pub record One (P : Place) : Type 0 where

@@ -1,21 +1,19 @@
 -- Two valid records that say the same have the same words in use. Assumes nothing.
 use mathlib.Core.Path.{_≡_, refl, sym, ap, _∙_, subst}
-use mathlib.Core.Bool.{Bool, true, false}
 use mathlib.Core.Logic.{_⊎_, ⊎-elim}
 use mathlib.Core.List.{List}
-use mathlib.Core.Option.{Option, none, some}
 use Prim.Native.Nat.{ℕ, zero, suc, _+_, _*_, _≤_, _<_}
 use native.Mathlib.Omega.{arith}
 use lib.ListN.{getD}
 use Rattle.cells.specs.declared.Cell.the-variants.{Blank}
 use Rattle.cells.specs.declared.Change.the-variants.{Nothing}
-use Rattle.protocol.specs.Machine.{Channel, Connection, Round, Item, Link, Device}
+use Rattle.protocol.specs.Machine.{Channel, Connection, Round, Link, Device}
 use Rattle.sheet.specs.Sheet.{sheet}
-use Rattle.words.specs.Layout.{CHANGE, ROUND, ROUND·CHANGES, ITEM, CHANNEL, REQUEST, CONNECTION, TAKEN, PENDING·LENGTH, WAITING·LENGTH, ITEMS·LENGTH, KNOWN, TRANSACTION, BUFFERED, RECEIVED, PENDING, WAITING, ITEMS}
+use Rattle.words.specs.Layout.{CHANGE, ROUND, ROUND·CHANGES, ITEM, TAKEN, PENDING·LENGTH, WAITING·LENGTH, ITEMS·LENGTH, KNOWN, TRANSACTION, BUFFERED, RECEIVED, PENDING, WAITING, ITEMS}
 use Rattle.words.specs.Place.{cellPlace, changePlace, Valid}
 use Rattle.words.proofs.Places.{lt-or-ge}
-use Rattle.record.specs.Reading.{sheetAt, changesAt, queue, roundAt, itemAt, bufferOf, receivedAt, channelOf, connectionOf, requestOf, linkOf, deviceOf}
-use Rattle.record.specs.Valid.{InItem, InUse, ValidItem, ValidRecord}
+use Rattle.record.specs.Reading.{queue, roundAt, itemAt, bufferOf, receivedAt, channelOf, connectionOf, requestOf, linkOf, deviceOf}
+use Rattle.record.specs.Valid.{InItem, InUse, ValidRecord}
 use Rattle.record.proofs.Queues.{same-lengths, same-entries}
 use Rattle.record.proofs.One.{cell-one, change-one, places-words, item-words}
 

@@ -1,23 +1,20 @@
 -- Where words stay, what they say stays, and they stay valid. Assumes nothing.
-use mathlib.Core.Path.{_≡_, refl, sym, ap, _∙_, subst, fun-ext}
-use mathlib.Core.Bool.{Bool, true, false}
-use mathlib.Core.Logic.{_⊎_, inl, inr, ⊎-elim}
+use mathlib.Core.Path.{_≡_, refl, sym, ap, _∙_, fun-ext}
+use mathlib.Core.Logic.{_⊎_, ⊎-elim}
 use mathlib.Core.List.{List, [], _∷_, _++_}
 use mathlib.Core.Option.{some}
 use Prim.Native.Nat.{ℕ, zero, suc, _+_, _*_, _-_, _≤_, _<_}
 use native.Mathlib.Omega.{arith}
-use native.Mathlib.Nat.{mul-le-mul-left}
-use lib.ListN.{length, getD}
+use lib.ListN.{getD}
 use borrow.Author.Tests.{lt-ltb, le-ltb}
 use Rattle.cells.specs.declared.Cell.the-variants.{Blank}
 use Rattle.cells.specs.declared.Change.the-variants.{Nothing}
-use Rattle.protocol.specs.Machine.{Round, Item}
-use Rattle.sheet.specs.Sheet.{sheet}
-use Rattle.words.specs.Layout.{CELL, CHANGE, QUEUE, ROUND, ROUND·CHANGES, ITEM, ITEM·NUMBERS, ITEM·PLACES, PREFIX, SEGMENT}
+use Rattle.protocol.specs.Machine.{Item}
+use Rattle.words.specs.Layout.{CHANGE, ROUND, ROUND·CHANGES, ITEM, ITEM·NUMBERS, ITEM·PLACES, SEGMENT, RECEIVED, ITEMS, RECORD}
 use Rattle.words.specs.Place.{Place, cellPlace, changePlace, Valid, Filled}
 use Rattle.words.proofs.Places.{Local, Same, lt-or-ge, place-below, cell-local, change-local}
-use Rattle.record.specs.Reading.{below, placesAt, sheetAt, changesAt, queue, roundAt, numbersAt, givenAt, givenBy, itemOf, itemAt, bufferOf, receivedAt}
-use Rattle.record.specs.Valid.{InItem, ValidItem}
+use Rattle.record.specs.Reading.{below, placesAt, queue, roundAt, numbersAt, givenAt, givenBy, itemOf, itemAt, bufferOf, receivedAt}
+use Rattle.record.specs.Valid.{InItem, InUse, ValidItem, ValidRecord}
 
 -- Two readings that are cut at the same number agree where they agree below it.
 pub below-same : {A : Type 0} (n : ℕ) (f g : ℕ → A) (past : A) → ((c : ℕ) → c < n → f c ≡ g c) → below n f past ≡ below n g past
@@ -134,3 +131,15 @@ in-item devices cells xs o i a b InItem.kind = (omega arith, omega arith)
 in-item devices cells xs o i a b (InItem.number l h) = (omega arith, omega arith)
 in-item devices cells xs o i a b (InItem.cell p l h) = (omega arith, omega arith)
 in-item devices cells xs o i a b (InItem.change p l h) = (omega arith, omega arith)
+
+-- The words in use of a valid record lie in it.
+pub in-record : (devices cells : ℕ) (xs : List ℕ) (i : ℕ) → devices ≤ 8 → cells ≤ 64 → ValidRecord devices cells xs → InUse devices cells xs i → i < RECORD
+in-record devices cells xs i a b X (InUse.single h) = omega arith
+in-record devices cells xs i a b X (InUse.known l h) = omega arith
+in-record devices cells xs i a b X (InUse.transaction l h) = omega arith
+in-record devices cells xs i a b X (InUse.buffered l h) = omega arith
+in-record devices cells xs i a b X InUse.buffer-kind = omega arith
+in-record devices cells xs i a b X (InUse.received k u) = omega (arith, in-item devices cells xs RECEIVED i a b u)
+in-record devices cells xs i a b X (InUse.pending j k l h) = omega (arith, X .few-pending)
+in-record devices cells xs i a b X (InUse.waiting j k l h) = omega (arith, X .few-waiting)
+in-record devices cells xs i a b X (InUse.items j k u) = omega (arith, X .few-items, in-item devices cells xs (ITEMS + ITEM * j) i a b u)

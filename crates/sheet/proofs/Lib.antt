@@ -3,3 +3,4 @@ pub mod Updates
 pub mod NeverLost
 pub mod Theorem
 pub mod CaseS
+pub mod OneAnswer

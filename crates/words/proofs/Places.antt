@@ -3,7 +3,7 @@ use mathlib.Core.Path.{_≡_, refl, sym, ap, _∙_, subst}
 use mathlib.Core.Bool.{Bool, true, false}
 use mathlib.Core.Logic.{_⊎_, inl, inr, ⊎-elim}
 use mathlib.Core.List.{List}
-use Prim.Native.Nat.{ℕ, zero, suc, _+_, _*_, _≤_, _<_}
+use Prim.Native.Nat.{ℕ, _+_, _*_, _≤_, _<_}
 use native.Mathlib.Nat.{mul-suc, mul-le-mul-left}
 use native.Mathlib.Numerals.{add-one}
 use native.Mathlib.Omega.{arith}
@@ -11,7 +11,7 @@ use lib.ListN.{length, getD, set, length-set}
 use lib.Seq.{getD-set-same, getD-set-other}
 use lib.Dec.{ltb}
 use borrow.Author.Tests.{ltb-true, ltb-false}
-use Rattle.words.specs.Place.{Place, Put, Filled, Valid, Kept, Out, Apart, Numbers, cellAt, cellOk, changeAt, changeOk, cellPlace, changePlace}
+use Rattle.words.specs.Place.{Place, Put, Filled, Kept, Apart, Numbers, cellAt, cellOk, changeAt, changeOk, cellPlace, changePlace}
 use Rattle.cells.specs.Stored.{CellFits, ChangeFits, cellFinite, changeFinite, cellOf, cellKind, cellPayload, cellWordsOk, changeFrom, changeKind, changePayload, changeWordsOk}
 use Rattle.cells.proofs.StoredForm.{cell-back, cell-words, change-back, change-words, words-cell-fits, words-change-fits}
 use Rattle.cells.specs.declared.Cell.{Cell}

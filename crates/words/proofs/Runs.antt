@@ -30,12 +30,12 @@ module _ (P : Place) (L : Local P) (xs ys : List ℕ) (to i : ℕ) (f : ℕ → 
     source-valid = K .valid-same xs ys (from + Q .width * i) (aside P L xs to f ys i n from (Q .width) i F (omega arith) h (B .apart)) ∙ B .from-valid i h
 
 -- What a loop makes of valid words can be stored again.
-module _ (xs : List ℕ) (o p : ℕ) {d : Change} (e : d ≡ changeAt xs p) (v : changeOk xs p ≡ true) where
+module _ (xs ss : List ℕ) (o p : ℕ) {d : Change} (e : d ≡ changeAt ss p) (v : changeOk ss p ≡ true) where
   pub stores-applied : {c r : Cell} → c ≡ cellAt xs o → r ≡ applied c d → cellOk xs o ≡ true → cellFinite r ≡ true
-  stores-applied f g u = ap cellFinite (g ∙ ap₂ applied f e) ∙ applied-finite (cellAt xs o) (changeAt xs p) (cell-finite xs o u) (change-finite xs p v)
+  stores-applied f g u = ap cellFinite (g ∙ ap₂ applied f e) ∙ applied-finite (cellAt xs o) (changeAt ss p) (cell-finite xs o u) (change-finite ss p v)
 
   pub stores-joined : {c r : Change} → c ≡ changeAt xs o → r ≡ joined c d → changeOk xs o ≡ true → changeFinite r ≡ true
-  stores-joined f g u = ap changeFinite (g ∙ ap₂ joined f e) ∙ joined-finite (changeAt xs o) (changeAt xs p) (change-finite xs o u) (change-finite xs p v)
+  stores-joined f g u = ap changeFinite (g ∙ ap₂ joined f e) ∙ joined-finite (changeAt xs o) (changeAt ss p) (change-finite xs o u) (change-finite ss p v)
 
 -- The later of two numbers where it is given.
 pub later-new : (old new : ℕ) → (new ≡ 0 → ⊥) → new ≡ laterNumber old new

@@ -30,6 +30,9 @@ abbrev pub ROUND : ℕ
 ROUND = 129
 
 -- An item: its kind, then a number for each device, then a cell or a change for each cell.
+abbrev pub ITEM·KIND : ℕ
+ITEM·KIND = 0
+
 abbrev pub ITEM·NUMBERS : ℕ
 ITEM·NUMBERS = 1
 

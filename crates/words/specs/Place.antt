@@ -71,6 +71,12 @@ pub record Beside (P Q : Place) (xs : List ℕ) (to from n : ℕ) : Type 0 where
   pub from-valid : Valid Q xs from n
   pub apart : Apart to (P .width * n) from (Q .width * n)
 
+-- The same, where the places that it reads are those of another slice.
+pub record Across (P Q : Place) (xs ss : List ℕ) (to from n : ℕ) : Type 0 where
+  pub to-fits : to + P .width * n ≤ length xs
+  pub from-fits : from + Q .width * n ≤ length ss
+  pub from-valid : Valid Q ss from n
+
 -- ys is xs with f k stored in the k-th of the n words from o on.
 pub record Numbers (xs ys : List ℕ) (o n : ℕ) (f : ℕ → ℕ) : Type 0 where
   pub is : (k : ℕ) → k < n → getD ys (o + k) 0 ≡ f k

@@ -20,6 +20,8 @@ pub const ROUND_CHANGES: usize = 1;
 pub const ROUND: usize = 129;
 
 // An item: its kind, then a number for each device, then a cell or a change for each cell.
+pub const ITEM_KIND: usize = 0;
+
 pub const ITEM_NUMBERS: usize = 1;
 
 pub const ITEM_PLACES: usize = 9;

@@ -1,6 +1,6 @@
 -- `cells::signed::bits_of_i64` meets its contract. The local holds x's word, and a word of the lower half is cast as it is: x's own, or its complement.
 -- Assumes nothing.
-use mathlib.Core.Path.{_≡_, ap, _∙_}
+use mathlib.Core.Path.{ap, _∙_}
 use Prim.Native.Nat.{ℕ, _-_, _^_, _<_}
 use native.Mathlib.Omega.{arith}
 use mir.Syntax.{w64}

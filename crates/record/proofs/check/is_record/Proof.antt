@@ -2,7 +2,8 @@
 -- Assumes nothing.
 use borrow.Author.Tests.{not-true, not-false}
 use Rattle.words.proofs.Tests.{says-false, decides-iff}
-use Rattle.record.proofs.Conditions.{record-is, is-singles, is-lengths, are-channels, are-requests, are-sheets, are-pending, are-waiting, are-items}
+use Rattle.record.proofs.Fitting.{record-is}
+use Rattle.record.proofs.Conditions.{is-singles, is-lengths, are-channels, are-requests, are-sheets, are-pending, are-waiting, are-items}
 use native.Mathlib.Omega.{arith}
 use borrow.Author.Needs.{needs}
 use Rattle.record.proofs.check.is_record.Statement.{statement}
@@ -42,7 +43,9 @@ shared-slice-read-are-pending : tie.Need-shared-slice-read-are-pending
 shared-slice-read-are-pending c = search needs
 
 are-pending-requires : tie.Need-are-pending-requires
-are-pending-requires c κs = let L = c .before .before .before .before .before .before .before .before .are-lengths .ensures .sure (not-false _ (c .before .before .before .before .before .before .before .if2 .left)) in (omega arith, omega arith, omega arith)
+are-pending-requires c κs =
+    let L = c .before .before .before .before .before .before .before .before .are-lengths .ensures .sure (not-false _ (c .before .before .before .before .before .before .before .if2 .left)) in
+    (omega arith, omega arith, omega arith)
 
 returns-6 : tie.Need-returns-6
 returns-6 c = says-false (λ R. c .before .are-pending .ensures .never (not-true _ (c .if6 .taken)) (are-pending _ _ _ (c .before .before .before .before .before .before .before .before .before .before .before .before .before .before .pre .0) R))
@@ -51,7 +54,9 @@ shared-slice-read-are-waiting : tie.Need-shared-slice-read-are-waiting
 shared-slice-read-are-waiting c = search needs
 
 are-waiting-requires : tie.Need-are-waiting-requires
-are-waiting-requires c κs = let L = c .before .before .before .before .before .before .before .before .before .before .before .are-lengths .ensures .sure (not-false _ (c .before .before .before .before .before .before .before .before .before .before .if2 .left)) in (omega arith, omega arith, omega arith, omega arith, omega arith)
+are-waiting-requires c κs =
+    let L = c .before .before .before .before .before .before .before .before .before .before .before .are-lengths .ensures .sure (not-false _ (c .before .before .before .before .before .before .before .before .before .before .if2 .left)) in
+    (omega arith, omega arith, omega arith, omega arith, omega arith)
 
 returns-7 : tie.Need-returns-7
 returns-7 c = says-false (λ R. c .before .are-waiting .ensures .never (not-true _ (c .if7 .taken)) (are-waiting _ _ _ (c .before .before .before .before .before .before .before .before .before .before .before .before .before .before .before .before .before .pre .0) R))
@@ -60,7 +65,9 @@ shared-slice-read-are-items : tie.Need-shared-slice-read-are-items
 shared-slice-read-are-items c = search needs
 
 are-items-requires : tie.Need-are-items-requires
-are-items-requires c κs = let L = c .before .before .before .before .before .before .before .before .before .before .before .before .before .before .are-lengths .ensures .sure (not-false _ (c .before .before .before .before .before .before .before .before .before .before .before .before .before .if2 .left)) in (omega arith, omega arith, omega arith, omega arith)
+are-items-requires c κs =
+    let L = c .before .before .before .before .before .before .before .before .before .before .before .before .before .before .are-lengths .ensures .sure (not-false _ (c .before .before .before .before .before .before .before .before .before .before .before .before .before .if2 .left)) in
+    (omega arith, omega arith, omega arith, omega arith)
 
 returns-8 : tie.Need-returns-8
 returns-8 c =

@@ -43,10 +43,15 @@ loop-less : tie.Need-loop-less Inv-loop μ-loop
 loop-less c = omega arith
 
 loop-again : tie.Need-loop-again Inv-loop μ-loop
-loop-again c = let l = c .before .before .before .before .loop in (omega arith, below-suc (l .i) (l .inv .1) (omega arith, omega arith))
+loop-again c =
+    let l = c .before .before .before .before .loop in
+    (omega arith, below-suc (l .i) (l .inv .1) (omega arith, omega arith))
 
 returns-3 : tie.Need-returns-3 Inv-loop μ-loop
-returns-3 c = let l = c .before .loop in let e : l .i ≡ c .before .before .args .n = omega arith in says-true (rw e at (l .inv .1))
+returns-3 c =
+    let l = c .before .loop in
+    let e : l .i ≡ c .before .before .args .n = omega arith in
+    says-true (rw e at (l .inv .1))
 
 pub are-numbers-spec : {M : Type 1} → statement M
 are-numbers-spec =

@@ -10,7 +10,9 @@ returns : tie.Need-returns
 returns c = decides-eq _ _ (λ h. record { due = λ p q. h; first = λ e. omega arith; asked = λ e. omega arith }) (λ s. s .due (omega arith) (omega arith))
 
 returns-2 : tie.Need-returns-2
-returns-2 c = let came = c .if1 .came in decides-ne _ _ (λ n. record { due = λ p q. ⊎-elim (λ w. absurd (omega arith)) (λ w. absurd (omega arith)) came; first = λ e. absurd (n e); asked = λ e. absurd (n e) }) (λ s e. let p = s .first e in let q = s .asked e in ⊎-elim (λ w. omega arith) (λ w. omega arith) came)
+returns-2 c =
+    let came = c .if1 .came in
+    decides-ne _ _ (λ n. record { due = λ p q. ⊎-elim (λ w. absurd (omega arith)) (λ w. absurd (omega arith)) came; first = λ e. absurd (n e); asked = λ e. absurd (n e) }) (λ s e. let p = s .first e in let q = s .asked e in ⊎-elim (λ w. omega arith) (λ w. omega arith) came)
 
 pub is-due-spec : {M : Type 1} → statement M
 is-due-spec = tie.close (tie.spec returns returns-2)

@@ -29,7 +29,9 @@ are-cells-requires : tie.Need-are-cells-requires
 are-cells-requires c κs = search needs
 
 returns-2 : tie.Need-returns-2
-returns-2 c = let ns = c .before .before .are-numbers .ensures .sure (not-false _ (c .before .if2 .left)) in decides-iff (c .are-cells .ensures) (λ ok. record { valid = record { kind-from-1 = omega arith; kind-to-2 = omega arith; prefix-numbers = λ e d h. ns d h .0; prefix-places = λ e. ok; segment-places = λ e. absurd (omega arith) }; numbers = λ k h. (omega arith, ns k h .1) }) (λ s. s .valid .prefix-places (omega arith))
+returns-2 c =
+    let ns = c .before .before .are-numbers .ensures .sure (not-false _ (c .before .if2 .left)) in
+    decides-iff (c .are-cells .ensures) (λ ok. record { valid = record { kind-from-1 = omega arith; kind-to-2 = omega arith; prefix-numbers = λ e d h. ns d h .0; prefix-places = λ e. ok; segment-places = λ e. absurd (omega arith) }; numbers = λ k h. (omega arith, ns k h .1) }) (λ s. s .valid .prefix-places (omega arith))
 
 returns-3 : tie.Need-returns-3
 returns-3 c = says-false (λ s. let p = s .valid in omega arith)
@@ -50,7 +52,9 @@ are-changes-requires : tie.Need-are-changes-requires
 are-changes-requires c κs = search needs
 
 returns-5 : tie.Need-returns-5
-returns-5 c = let ns = c .before .before .are-numbers2 .ensures .sure (not-false _ (c .before .if4 .left)) in decides-iff (c .are-changes .ensures) (λ ok. record { valid = record { kind-from-1 = omega arith; kind-to-2 = omega arith; prefix-numbers = λ e d h. absurd (omega arith); prefix-places = λ e. absurd (omega arith); segment-places = λ e. ok }; numbers = ns }) (λ s. s .valid .segment-places (omega arith))
+returns-5 c =
+    let ns = c .before .before .are-numbers2 .ensures .sure (not-false _ (c .before .if4 .left)) in
+    decides-iff (c .are-changes .ensures) (λ ok. record { valid = record { kind-from-1 = omega arith; kind-to-2 = omega arith; prefix-numbers = λ e d h. absurd (omega arith); prefix-places = λ e. absurd (omega arith); segment-places = λ e. ok }; numbers = ns }) (λ s. s .valid .segment-places (omega arith))
 
 pub is-item-spec : {M : Type 1} → statement M
 is-item-spec =

@@ -1,10 +1,10 @@
 -- `words::run::apply_changes` meets its contract: the cell and the change of a turn are as they were at the start.
 -- Assumes nothing.
 use borrow.Author.Needs.{needs}
-use mathlib.Core.Path.{_≡_, refl, ap, _∙_}
+use mathlib.Core.Path.{_≡_, refl, _∙_}
 use Prim.Native.Nat.{_≤_, _-_, _+_, _*_}
 use native.Mathlib.Omega.{arith}
-use lib.ListN.{length, getD}
+use lib.ListN.{length}
 use Rattle.words.specs.Layout.{CELL, CHANGE}
 use mathlib.Core.Path.{ap₂}
 use Rattle.words.specs.Place.{cellAt, changeAt, cellPlace, changePlace, Filled}
@@ -24,16 +24,29 @@ loop-holds : tie.Need-loop-holds Inv-loop μ-loop
 loop-holds c = (omega arith, refl, filled-none cellPlace cell-local _ _ _)
 
 get-cell-requires : tie.Need-get-cell-requires Inv-loop μ-loop
-get-cell-requires c κs = let l = c .before .before .loop in let s = c .before .before .before .before in (omega arith, target-valid cellPlace cell-local _ _ _ (l .i) _ (l .inv .2) _ (c .before .loop-test .taken) (s .pre .1))
+get-cell-requires c κs =
+    let l = c .before .before .loop in
+    let s = c .before .before .before .before in
+    (omega arith, target-valid cellPlace cell-local _ _ _ (l .i) _ (l .inv .2) _ (c .before .loop-test .taken) (s .pre .1))
 
 get-change-requires : tie.Need-get-change-requires Inv-loop μ-loop
-get-change-requires c κs = let l = c .before .before .before .before .loop in let s = c .before .before .before .before .before .before in (omega arith, source-valid cellPlace cell-local _ _ _ (l .i) _ (l .inv .2) changePlace change-local _ _ (c .before .before .before .loop-test .taken) (s .pre .0))
+get-change-requires c κs =
+    let l = c .before .before .before .before .loop in
+    let s = c .before .before .before .before .before .before in (
+      omega arith,
+      source-valid cellPlace cell-local _ _ _ (l .i) _ (l .inv .2) changePlace change-local _ _ (c .before .before .before .loop-test .taken) (s .pre .0),
+    )
 
 apply-requires : tie.Need-apply-requires Inv-loop μ-loop
 apply-requires c κs = search needs
 
 put-cell-requires : tie.Need-put-cell-requires Inv-loop μ-loop
-put-cell-requires c κs = let l = c .before .before .before .before .before .before .before .loop in let s = c .before .before .before .before .before .before .before .before .before in (omega arith, stores-applied _ _ _ (c .before .before .get-change .ensures) (source-valid cellPlace cell-local _ _ _ (l .i) _ (l .inv .2) changePlace change-local _ _ (c .before .before .before .before .before .before .loop-test .taken) (s .pre .0)) (c .before .before .before .before .get-cell .ensures) (c .apply .ensures) (target-valid cellPlace cell-local _ _ _ (l .i) _ (l .inv .2) _ (c .before .before .before .before .before .before .loop-test .taken) (s .pre .1)))
+put-cell-requires c κs =
+    let l = c .before .before .before .before .before .before .before .loop in
+    let s = c .before .before .before .before .before .before .before .before .before in (
+      omega arith,
+      stores-applied _ _ _ _ (c .before .before .get-change .ensures) (source-valid cellPlace cell-local _ _ _ (l .i) _ (l .inv .2) changePlace change-local _ _ (c .before .before .before .before .before .before .loop-test .taken) (s .pre .0)) (c .before .before .before .before .get-cell .ensures) (c .apply .ensures) (target-valid cellPlace cell-local _ _ _ (l .i) _ (l .inv .2) _ (c .before .before .before .before .before .before .loop-test .taken) (s .pre .1)),
+    )
 
 add-i : tie.Need-add-i Inv-loop μ-loop
 add-i c = omega arith
@@ -42,13 +55,23 @@ loop-less : tie.Need-loop-less Inv-loop μ-loop
 loop-less c = omega arith
 
 loop-again : tie.Need-loop-again Inv-loop μ-loop
-loop-again c = let l = c .before .before .before .before .before .before .before .before .before .before .loop in let s = c .before .before .before .before .before .before .before .before .before .before .before .before in let w = c .before .before .put-cell in (omega arith, w .kept .0 ∙ l .inv .1, filled-more cellPlace cell-local _ _ _ _ _ (l .i) _ (l .inv .2) (w .ensures) (c .before .before .before .apply .ensures ∙ ap₂ applied (c .before .before .before .before .before .before .before .get-cell .ensures ∙ target-value cellPlace cell-local _ _ _ (l .i) _ (l .inv .2)) (c .before .before .before .before .before .get-change .ensures ∙ source-value cellPlace cell-local _ _ _ (l .i) _ (l .inv .2) changePlace change-local _ _ (c .before .before .before .before .before .before .before .before .before .loop-test .taken) (s .pre .0))))
+loop-again c =
+    let l = c .before .before .before .before .before .before .before .before .before .before .loop in
+    let s = c .before .before .before .before .before .before .before .before .before .before .before .before in
+    let w = c .before .before .put-cell in (
+      omega arith,
+      w .kept .0 ∙ l .inv .1,
+      filled-more cellPlace cell-local _ _ _ _ _ (l .i) _ (l .inv .2) (w .ensures) (c .before .before .before .apply .ensures ∙ ap₂ applied (c .before .before .before .before .before .before .before .get-cell .ensures ∙ target-value cellPlace cell-local _ _ _ (l .i) _ (l .inv .2)) (c .before .before .before .before .before .get-change .ensures ∙ source-value cellPlace cell-local _ _ _ (l .i) _ (l .inv .2) changePlace change-local _ _ (c .before .before .before .before .before .before .before .before .before .loop-test .taken) (s .pre .0))),
+    )
 
 same-length : tie.Need-same-length Inv-loop μ-loop
 same-length c = c .before .loop .inv .1
 
 returns : tie.Need-returns Inv-loop μ-loop
-returns c = let l = c .before .loop in let e : l .i ≡ c .before .before .before .args .n = omega arith in rw e at (l .inv .2)
+returns c =
+    let l = c .before .loop in
+    let e : l .i ≡ c .before .before .before .args .n = omega arith in
+    rw e at (l .inv .2)
 
 pub apply-changes-spec : {M : Type 1} → statement M
 apply-changes-spec =

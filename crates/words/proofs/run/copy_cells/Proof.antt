@@ -3,8 +3,8 @@
 use mathlib.Core.Path.{_≡_, refl, ap, _∙_}
 use Prim.Native.Nat.{_≤_, _-_, _+_, _*_}
 use native.Mathlib.Omega.{arith}
-use lib.ListN.{length, getD}
-use Rattle.words.specs.Layout.{CELL, CHANGE}
+use lib.ListN.{length}
+use Rattle.words.specs.Layout.{CELL}
 use Rattle.words.specs.Place.{cellAt, cellPlace, Filled}
 use Rattle.words.proofs.Places.{cell-local, cell-finite, filled-none, filled-more}
 use Rattle.words.proofs.Runs.{source-value, source-valid}
@@ -22,10 +22,20 @@ loop-holds : tie.Need-loop-holds Inv-loop μ-loop
 loop-holds c = (omega arith, refl, filled-none cellPlace cell-local _ _ _)
 
 get-cell-requires : tie.Need-get-cell-requires Inv-loop μ-loop
-get-cell-requires c κs = let l = c .before .before .loop in let s = c .before .before .before .before in (omega arith, source-valid cellPlace cell-local _ _ _ (l .i) _ (l .inv .2) cellPlace cell-local _ _ (c .before .loop-test .taken) (s .pre))
+get-cell-requires c κs =
+    let l = c .before .before .loop in
+    let s = c .before .before .before .before in (
+      omega arith,
+      source-valid cellPlace cell-local _ _ _ (l .i) _ (l .inv .2) cellPlace cell-local _ _ (c .before .loop-test .taken) (s .pre),
+    )
 
 put-cell-requires : tie.Need-put-cell-requires Inv-loop μ-loop
-put-cell-requires c κs = let l = c .before .before .before .before .loop in let s = c .before .before .before .before .before .before in (omega arith, ap cellFinite (c .before .get-cell .ensures) ∙ cell-finite _ _ (source-valid cellPlace cell-local _ _ _ (l .i) _ (l .inv .2) cellPlace cell-local _ _ (c .before .before .before .loop-test .taken) (s .pre)))
+put-cell-requires c κs =
+    let l = c .before .before .before .before .loop in
+    let s = c .before .before .before .before .before .before in (
+      omega arith,
+      ap cellFinite (c .before .get-cell .ensures) ∙ cell-finite _ _ (source-valid cellPlace cell-local _ _ _ (l .i) _ (l .inv .2) cellPlace cell-local _ _ (c .before .before .before .loop-test .taken) (s .pre)),
+    )
 
 add-i : tie.Need-add-i Inv-loop μ-loop
 add-i c = omega arith
@@ -34,13 +44,23 @@ loop-less : tie.Need-loop-less Inv-loop μ-loop
 loop-less c = omega arith
 
 loop-again : tie.Need-loop-again Inv-loop μ-loop
-loop-again c = let l = c .before .before .before .before .before .before .before .loop in let s = c .before .before .before .before .before .before .before .before .before in let w = c .before .before .put-cell in (omega arith, w .kept .0 ∙ l .inv .1, filled-more cellPlace cell-local _ _ _ _ _ (l .i) _ (l .inv .2) (w .ensures) (c .before .before .before .before .get-cell .ensures ∙ source-value cellPlace cell-local _ _ _ (l .i) _ (l .inv .2) cellPlace cell-local _ _ (c .before .before .before .before .before .before .loop-test .taken) (s .pre)))
+loop-again c =
+    let l = c .before .before .before .before .before .before .before .loop in
+    let s = c .before .before .before .before .before .before .before .before .before in
+    let w = c .before .before .put-cell in (
+      omega arith,
+      w .kept .0 ∙ l .inv .1,
+      filled-more cellPlace cell-local _ _ _ _ _ (l .i) _ (l .inv .2) (w .ensures) (c .before .before .before .before .get-cell .ensures ∙ source-value cellPlace cell-local _ _ _ (l .i) _ (l .inv .2) cellPlace cell-local _ _ (c .before .before .before .before .before .before .loop-test .taken) (s .pre)),
+    )
 
 same-length : tie.Need-same-length Inv-loop μ-loop
 same-length c = c .before .loop .inv .1
 
 returns : tie.Need-returns Inv-loop μ-loop
-returns c = let l = c .before .loop in let e : l .i ≡ c .before .before .before .args .n = omega arith in rw e at (l .inv .2)
+returns c =
+    let l = c .before .loop in
+    let e : l .i ≡ c .before .before .before .args .n = omega arith in
+    rw e at (l .inv .2)
 
 pub copy-cells-spec : {M : Type 1} → statement M
 copy-cells-spec =

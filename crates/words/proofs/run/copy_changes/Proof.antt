@@ -3,8 +3,8 @@
 use mathlib.Core.Path.{_≡_, refl, ap, _∙_}
 use Prim.Native.Nat.{_≤_, _-_, _+_, _*_}
 use native.Mathlib.Omega.{arith}
-use lib.ListN.{length, getD}
-use Rattle.words.specs.Layout.{CELL, CHANGE}
+use lib.ListN.{length}
+use Rattle.words.specs.Layout.{CHANGE}
 use Rattle.words.specs.Place.{changeAt, changePlace, Filled}
 use Rattle.words.proofs.Places.{change-local, change-finite, filled-none, filled-more}
 use Rattle.words.proofs.Runs.{source-value, source-valid}
@@ -22,10 +22,20 @@ loop-holds : tie.Need-loop-holds Inv-loop μ-loop
 loop-holds c = (omega arith, refl, filled-none changePlace change-local _ _ _)
 
 get-change-requires : tie.Need-get-change-requires Inv-loop μ-loop
-get-change-requires c κs = let l = c .before .before .loop in let s = c .before .before .before .before in (omega arith, source-valid changePlace change-local _ _ _ (l .i) _ (l .inv .2) changePlace change-local _ _ (c .before .loop-test .taken) (s .pre))
+get-change-requires c κs =
+    let l = c .before .before .loop in
+    let s = c .before .before .before .before in (
+      omega arith,
+      source-valid changePlace change-local _ _ _ (l .i) _ (l .inv .2) changePlace change-local _ _ (c .before .loop-test .taken) (s .pre),
+    )
 
 put-change-requires : tie.Need-put-change-requires Inv-loop μ-loop
-put-change-requires c κs = let l = c .before .before .before .before .loop in let s = c .before .before .before .before .before .before in (omega arith, ap changeFinite (c .before .get-change .ensures) ∙ change-finite _ _ (source-valid changePlace change-local _ _ _ (l .i) _ (l .inv .2) changePlace change-local _ _ (c .before .before .before .loop-test .taken) (s .pre)))
+put-change-requires c κs =
+    let l = c .before .before .before .before .loop in
+    let s = c .before .before .before .before .before .before in (
+      omega arith,
+      ap changeFinite (c .before .get-change .ensures) ∙ change-finite _ _ (source-valid changePlace change-local _ _ _ (l .i) _ (l .inv .2) changePlace change-local _ _ (c .before .before .before .loop-test .taken) (s .pre)),
+    )
 
 add-i : tie.Need-add-i Inv-loop μ-loop
 add-i c = omega arith
@@ -34,13 +44,23 @@ loop-less : tie.Need-loop-less Inv-loop μ-loop
 loop-less c = omega arith
 
 loop-again : tie.Need-loop-again Inv-loop μ-loop
-loop-again c = let l = c .before .before .before .before .before .before .before .loop in let s = c .before .before .before .before .before .before .before .before .before in let w = c .before .before .put-change in (omega arith, w .kept .0 ∙ l .inv .1, filled-more changePlace change-local _ _ _ _ _ (l .i) _ (l .inv .2) (w .ensures) (c .before .before .before .before .get-change .ensures ∙ source-value changePlace change-local _ _ _ (l .i) _ (l .inv .2) changePlace change-local _ _ (c .before .before .before .before .before .before .loop-test .taken) (s .pre)))
+loop-again c =
+    let l = c .before .before .before .before .before .before .before .loop in
+    let s = c .before .before .before .before .before .before .before .before .before in
+    let w = c .before .before .put-change in (
+      omega arith,
+      w .kept .0 ∙ l .inv .1,
+      filled-more changePlace change-local _ _ _ _ _ (l .i) _ (l .inv .2) (w .ensures) (c .before .before .before .before .get-change .ensures ∙ source-value changePlace change-local _ _ _ (l .i) _ (l .inv .2) changePlace change-local _ _ (c .before .before .before .before .before .before .loop-test .taken) (s .pre)),
+    )
 
 same-length : tie.Need-same-length Inv-loop μ-loop
 same-length c = c .before .loop .inv .1
 
 returns : tie.Need-returns Inv-loop μ-loop
-returns c = let l = c .before .loop in let e : l .i ≡ c .before .before .before .args .n = omega arith in rw e at (l .inv .2)
+returns c =
+    let l = c .before .loop in
+    let e : l .i ≡ c .before .before .before .args .n = omega arith in
+    rw e at (l .inv .2)
 
 pub copy-changes-spec : {M : Type 1} → statement M
 copy-changes-spec =

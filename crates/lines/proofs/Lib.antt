@@ -1,0 +1,4 @@
+pub mod Ends
+pub mod Held
+pub mod Chunks
+pub mod Feeding

@@ -1,0 +1,5 @@
+pub mod Names
+pub mod Values
+pub mod Parse
+pub mod Grammar
+pub mod Answer

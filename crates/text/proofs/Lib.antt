@@ -1,0 +1,11 @@
+pub mod HexText
+pub mod Digits
+pub mod Reading
+pub mod DecimalText
+pub mod DecimalTrip
+pub mod HexTrip
+pub mod Sign
+pub mod SignedTrip
+pub mod FieldWalk
+pub mod Fields
+pub mod PutLaws
