@@ -15,3 +15,4 @@ pub mod Joins
 pub mod Receives
 pub mod Prefixes
 pub mod Segments
+pub mod Questions

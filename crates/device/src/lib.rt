@@ -1,12 +1,13 @@
 // The steps of a device on its record, and one dispatcher for them. Two of them, confirmed and read, only look.
 mod above;
 mod ask;
-pub mod confirmed;
+mod confirmed;
 mod give_up;
 mod item;
+pub mod look;
 mod pull;
 mod push;
-pub mod read;
+mod read;
 mod receive;
 mod renew;
 mod round;

@@ -14,9 +14,12 @@ use Rattle.sheet.specs.declared.Answer.{Answer}
 use Rattle.sheet.specs.declared.Answer.the-variants.{Refused}
 use Rattle.words.specs.Layout.{TAKEN, DEVICES, CELLS}
 use Rattle.record.specs.Reading.{deviceOf}
-use Rattle.device.specs.Did.{Did, answerOf, deviceAfter, stepOf, named}
+use Rattle.device.specs.Did.{Did, Tells, answerOf, deviceAfter, stepOf, named}
+use Rattle.device.specs.Look.{questionOf, asked}
+use Rattle.device.specs.declared.look.Question.{Question}
+use Rattle.device.specs.declared.look.Question.the-variants.{Read, Confirmed}
 use Rattle.device.specs.declared.step.Op.{Op}
-use Rattle.device.specs.declared.step.Op.the-variants.{Push}
+use Rattle.device.specs.declared.step.Op.the-variants.{Push, Send, Ask, Drop, Receive, Pull}
 use Rattle.table.specs.Table.{recordAt, reading, IsTable}
 use Rattle.table.specs.Promise.{Stepped}
 use Rattle.table.proofs.Part.{Replaced}
@@ -38,7 +41,13 @@ unmoved s xs a T e = record {
 -- The machine's step that an operation names is the device's.
 named-at : (d : ℕ) (op : Op) (t : Table sheet) → step sheet (named d op) t ≡ at sheet t d (stepOf (t .cells) d op)
 unfolding step
+named-at d (Op.Update cell u) t = refl
 named-at d Push t = refl
+named-at d Send t = refl
+named-at d Ask t = refl
+named-at d Drop t = refl
+named-at d Receive t = refl
+named-at d Pull t = refl
 
 pub named-is : (xs : List ℕ) (d : ℕ) (op : Op) → step sheet (named d op) (reading xs) ≡ at sheet (reading xs) d (stepOf (getD xs CELLS 0) d op)
 named-is xs d op = named-at d op (reading xs) ∙ ap (λ (c : ℕ). at sheet (reading xs) d (stepOf c d op)) cells-is
@@ -127,3 +136,22 @@ module _ (xs : List ℕ) (d : ℕ) (op : Op) (T : IsTable xs) where
 
   pub lifted-named : d < getD xs DEVICES 0 → (ys rs : List ℕ) (a : Answer) → Replaced xs ys d rs → Did (getD xs DEVICES 0) (getD xs CELLS 0) (stepOf (getD xs CELLS 0) d op) (recordAt xs d) a rs → Stepped (step sheet (named d op)) xs a ys
   lifted-named h ys rs a R S = lifted (named d op) (stepOf (getD xs CELLS 0) d op) xs d (named-is xs d op) T h ys rs a R S
+
+-- The same of a question.
+asked-at : (d : ℕ) (q : Question) (t : Table sheet) → step sheet (asked d q) t ≡ at sheet t d (questionOf (t .cells) q)
+unfolding step
+asked-at d (Read c) t = refl
+asked-at d Confirmed t = refl
+
+module _ (xs : List ℕ) (d : ℕ) (q : Question) (T : IsTable xs) where
+  asked-is : step sheet (asked d q) (reading xs) ≡ at sheet (reading xs) d (questionOf (getD xs CELLS 0) q)
+  asked-is = asked-at d q (reading xs) ∙ ap (λ (c : ℕ). at sheet (reading xs) d (questionOf c q)) cells-is
+    where
+      cells-is : reading xs .cells ≡ getD xs CELLS 0
+      cells-is = unfold reading in refl
+
+  pub no-device-asked : getD xs DEVICES 0 ≤ d → Stepped (step sheet (asked d q)) xs (Refused NoDevice) xs
+  no-device-asked h = no-device (asked d q) (questionOf (getD xs CELLS 0) q) xs d asked-is T h
+
+  pub told-asked : d < getD xs DEVICES 0 → (a : Answer) → Tells (getD xs DEVICES 0) (getD xs CELLS 0) (questionOf (getD xs CELLS 0) q) (recordAt xs d) a → Stepped (step sheet (asked d q)) xs a xs
+  told-asked h a t = told (asked d q) (questionOf (getD xs CELLS 0) q) xs d asked-is T h a t

@@ -2,9 +2,13 @@
 ghost use Rattle.protocol.specs.Machine.{step};
 ghost use Rattle.protocol.specs.Machine as machine;
 ghost use Rattle.sheet.specs.Sheet.{sheet};
-ghost use Rattle.device.specs.Did.{named};
+ghost use Rattle.device.specs.Did.{named, updateOf};
+ghost use Rattle.device.specs.Look.{asked};
 ghost use Rattle.table.specs.Promise.{Stepped};
 use crate::check::is_table;
+use cells::Update;
+use device::look::Question;
+use device::look::look;
 use device::step::Op;
 use device::step::on_record;
 use protocol::Refusal;
@@ -31,8 +35,74 @@ fn on_device(t: &mut [u64], d: u64, op: Op) -> Answer
     on_record(&mut t[a..e], devices, cells, d as usize, op)
 }
 
+// Any question to device d; the table stays as it is.
+fn ask_device(t: &[u64], d: u64, q: Question) -> Answer
+    ensures { λ a. ⌜ Stepped (step sheet (asked d q)) (now (t .entry)) a (now (t .entry)) ⌝ }
+{
+    if !is_table(t) {
+        return Answer::Refused(Refusal::NoTable);
+    }
+    if d >= t[DEVICES] {
+        return Answer::Refused(Refusal::NoDevice);
+    }
+    let devices = t[DEVICES] as usize;
+    let cells = t[CELLS] as usize;
+    let a = RECORDS + RECORD * (d as usize);
+    let e = a + RECORD;
+    look(&t[a..e], devices, cells, q)
+}
+
+pub fn update(t: &mut [u64], d: u64, cell: u64, u: Update) -> Answer
+    ensures { λ a. ⌜ Stepped (step sheet (machine.update d (updateOf cell u))) (now (t .entry)) a (now (t .exit)) ⌝ }
+{
+    on_device(t, d, Op::Update(cell, u))
+}
+
+pub fn read(t: &[u64], d: u64, cell: u64) -> Answer
+    ensures { λ a. ⌜ Stepped (step sheet (machine.read d cell)) (now (t .entry)) a (now (t .entry)) ⌝ }
+{
+    ask_device(t, d, Question::Read(cell))
+}
+
 pub fn push(t: &mut [u64], d: u64) -> Answer
     ensures { λ a. ⌜ Stepped (step sheet (machine.push d)) (now (t .entry)) a (now (t .exit)) ⌝ }
 {
     on_device(t, d, Op::Push)
+}
+
+pub fn send(t: &mut [u64], d: u64) -> Answer
+    ensures { λ a. ⌜ Stepped (step sheet (machine.send d)) (now (t .entry)) a (now (t .exit)) ⌝ }
+{
+    on_device(t, d, Op::Send)
+}
+
+pub fn confirmed(t: &[u64], d: u64) -> Answer
+    ensures { λ a. ⌜ Stepped (step sheet (machine.confirmed d)) (now (t .entry)) a (now (t .entry)) ⌝ }
+{
+    ask_device(t, d, Question::Confirmed)
+}
+
+pub fn ask(t: &mut [u64], d: u64) -> Answer
+    ensures { λ a. ⌜ Stepped (step sheet (machine.ask d)) (now (t .entry)) a (now (t .exit)) ⌝ }
+{
+    on_device(t, d, Op::Ask)
+}
+
+// Document 01's drop.
+pub fn give_up(t: &mut [u64], d: u64) -> Answer
+    ensures { λ a. ⌜ Stepped (step sheet (machine.drop·channel d)) (now (t .entry)) a (now (t .exit)) ⌝ }
+{
+    on_device(t, d, Op::Drop)
+}
+
+pub fn receive(t: &mut [u64], d: u64) -> Answer
+    ensures { λ a. ⌜ Stepped (step sheet (machine.receive d)) (now (t .entry)) a (now (t .exit)) ⌝ }
+{
+    on_device(t, d, Op::Receive)
+}
+
+pub fn pull(t: &mut [u64], d: u64) -> Answer
+    ensures { λ a. ⌜ Stepped (step sheet (machine.pull d)) (now (t .entry)) a (now (t .exit)) ⌝ }
+{
+    on_device(t, d, Op::Pull)
 }

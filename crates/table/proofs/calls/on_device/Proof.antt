@@ -92,7 +92,7 @@ on-record-requires c κs =
     let T = c .before .before .before .before .before .before .is-table .ensures .sure (not-false _ (c .before .before .before .before .before .if1 .left)) in
     let ok = T .valid in
     let z = ok .sizes in
-    rw (part-is _ _) (record-of _ T _ (c .before .before .before .if2 .left))
+    (rw (part-is _ _) (record-of _ T _ (c .before .before .before .if2 .left)), c .before .before .before .if2 .left)
 
 same-length-3 : tie.Need-same-length-3
 same-length-3 c = search needs

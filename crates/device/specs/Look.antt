@@ -1,0 +1,17 @@
+-- The questions to a device. Assumes nothing.
+use Prim.Native.Nat.{ℕ}
+use Rattle.protocol.specs.Machine.{Device, Local, Step, read·at, confirmed·at}
+use Rattle.protocol.specs.Machine as machine
+use Rattle.sheet.specs.Sheet.{sheet}
+use Rattle.device.specs.declared.look.Question.{Question}
+use Rattle.device.specs.declared.look.Question.the-variants.{Read, Confirmed}
+
+-- The machine's step of a device that a question names.
+abbrev pub questionOf : (cells : ℕ) → Question → Device sheet → Local sheet
+questionOf cells (Read c) = read·at sheet cells c
+questionOf cells Confirmed = confirmed·at sheet cells
+
+-- The machine's step of the table that it is.
+abbrev pub asked : (d : ℕ) → Question → Step sheet
+asked d (Read c) = machine.read d c
+asked d Confirmed = machine.confirmed d
