@@ -1,3 +1,4 @@
 pub mod Gathers
 pub mod GatherAll
 pub mod Prefixes
+pub mod EndLaws

@@ -1,3 +1,4 @@
 // The server and the link on the lent table.
+mod ends;
 pub mod gather;
 pub mod prefix;
