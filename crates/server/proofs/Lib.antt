@@ -2,3 +2,4 @@ pub mod Gathers
 pub mod GatherAll
 pub mod Prefixes
 pub mod EndLaws
+pub mod Turns

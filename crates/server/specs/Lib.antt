@@ -1,3 +1,4 @@
+pub mod Turn
 pub mod Ends
 pub mod Gather
 pub mod Prefix
