@@ -1,12 +1,12 @@
 -- Laws of items: what one of a kind is, the number that it gives a device, and the queue without its first. Assumes nothing.
 use mathlib.Core.Path.{_≡_, refl, ap, _∙_, subst}
 use mathlib.Core.List.{List}
-use mathlib.Core.Option.{Option, none, some}
+use mathlib.Core.Option.{none, some}
 use Prim.Native.Nat.{ℕ, zero, suc, _+_, _*_, _-_, _≤_, _<_}
 use native.Mathlib.Omega.{arith}
 use lib.ListN.{length, getD, set, drop}
 use borrow.Author.Tests.{lt-ltb}
-use Rattle.protocol.specs.Machine.{Item, prefix, segment, gives}
+use Rattle.protocol.specs.Machine.{prefix, segment, gives}
 use Rattle.sheet.specs.Sheet.{sheet}
 use Rattle.words.specs.Layout.{ITEM, ITEM·NUMBERS, ITEM·PLACES, PREFIX, SEGMENT, ITEMS·LENGTH, ITEMS, RECORD}
 use Rattle.record.specs.Reading.{queue, sheetAt, changesAt, numbersAt, givenBy, givenAt, itemOf, itemAt, bufferOf, receivedAt}

@@ -1,16 +1,15 @@
 -- What `read` answers of a record. Assumes nothing.
 use mathlib.Core.Path.{_≡_, refl, sym, ap, _∙_}
 use mathlib.Core.List.{List, [], _∷_}
-use Prim.Native.Nat.{ℕ, zero, suc, _+_, _*_, _≤_, _<_}
+use Prim.Native.Nat.{ℕ, _+_, _*_, _≤_, _<_}
 use native.Mathlib.Numerals.{add-one}
-use native.Mathlib.Omega.{arith}
-use lib.ListN.{length, getD}
+use lib.ListN.{getD}
 use borrow.Author.Tests.{lt-ltb, le-leb, lt-leb}
 use Rattle.cells.specs.Cells.{applied}
 use Rattle.cells.specs.declared.Cell.{Cell}
 use Rattle.cells.specs.declared.Change.{Change}
 use Rattle.protocol.specs.declared.Refusal.the-variants.{NoCell}
-use Rattle.protocol.specs.Machine.{Round, applyRounds, read·at, tell, value}
+use Rattle.protocol.specs.Machine.{applyRounds, read·at, tell, value}
 use Rattle.protocol.proofs.Basics.{applyRounds-append}
 use Rattle.sheet.specs.Sheet.{sheet}
 use Rattle.sheet.specs.declared.Answer.the-variants.{Value, Refused}

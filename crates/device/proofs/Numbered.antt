@@ -1,7 +1,6 @@
 -- Laws of the pending rounds above a number. Assumes nothing.
 use mathlib.Core.Path.{_≡_, refl, sym, ap, _∙_, subst}
-use mathlib.Core.List.{List, [], _∷_, _++_}
-use mathlib.Core.Option.{some}
+use mathlib.Core.List.{List, _∷_}
 use Prim.Native.Nat.{ℕ, zero, suc, _+_, _*_, _-_, _≤_, _<_}
 use native.Mathlib.Omega.{arith}
 use lib.ListN.{length, getD, set}
@@ -13,7 +12,7 @@ use Rattle.words.specs.Place.{changePlace, Apart, Valid}
 use Rattle.record.specs.Reading.{queue, roundAt, givenBy}
 use Rattle.record.proofs.Queues.{queue-first}
 use Rattle.record.proofs.Same.{queue-same}
-use Rattle.device.specs.Parts.{roundEntry, Movable, Moved, QueueIs, Requeued}
+use Rattle.device.specs.Parts.{roundEntry, Movable, Moved, Requeued}
 use Rattle.device.specs.Rounds.{roundsOf, CountedTo, HasPending}
 use Rattle.device.proofs.Entries.{round-local, queue-moved}
 
@@ -34,7 +33,7 @@ above-queue k (suc s) m f u n =
     ap (λ (a : ℕ). above sheet k (queue a f)) e ∙ ap (above sheet k) (queue-first (s + m) f) ∙ above-gone k (f 0) (queue (s + m) (λ j. f (suc j))) (u 0 (omega arith)) ∙ above-queue k s m (λ j. f (suc j)) (λ j h. u (suc j) (omega arith)) n
     ∙ queue-same m (λ j. f (suc (s + j))) (λ j. f (suc s + j)) (λ j h. let z : suc (s + j) ≡ suc s + j = omega arith in ap f z)
 
-pub above-counted : (cells : ℕ) (xs : List ℕ) (number s : ℕ) → CountedTo xs number s → above sheet number (roundsOf cells xs PENDING·LENGTH PENDING) ≡ queue (getD xs PENDING·LENGTH 0 - s) (λ j. roundAt cells xs (PENDING + ROUND * s + ROUND * j))
+above-counted : (cells : ℕ) (xs : List ℕ) (number s : ℕ) → CountedTo xs number s → above sheet number (roundsOf cells xs PENDING·LENGTH PENDING) ≡ queue (getD xs PENDING·LENGTH 0 - s) (λ j. roundAt cells xs (PENDING + ROUND * s + ROUND * j))
 unfolding roundAt
 above-counted cells xs number s C =
     let l = C .few in

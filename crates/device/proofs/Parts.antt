@@ -3,7 +3,7 @@ use mathlib.Core.Path.{_≡_, refl, sym, ap, _∙_}
 use mathlib.Core.Bool.{Bool}
 use mathlib.Core.List.{List}
 use mathlib.Core.Option.{Option}
-use Prim.Native.Nat.{ℕ, _+_, _*_, _≤_, _<_}
+use Prim.Native.Nat.{ℕ, _*_, _≤_, _<_}
 use native.Mathlib.Omega.{arith}
 use lib.ListN.{length, getD}
 use Rattle.cells.specs.declared.Cell.the-variants.{Blank}
@@ -66,7 +66,7 @@ module _ (devices cells : ℕ) (xs : List ℕ) where
   }
 
   module _ (x : Device sheet) (P : Parts devices cells xs x) where
-    pub parts-say : deviceOf devices cells xs ≡ x
+    parts-say : deviceOf devices cells xs ≡ x
     unfolding deviceOf linkOf
     parts-say = (λ i. record {
       known = P .known .is i;
@@ -79,7 +79,7 @@ module _ (devices cells : ℕ) (xs : List ℕ) where
       link = record { channel = P .words .channel i; request = P .words .request i; connection = P .words .connection i; waiting = P .waiting .is i; items = P .items .is i };
     })
 
-    pub parts-valid : ValidRecord devices cells xs
+    parts-valid : ValidRecord devices cells xs
     parts-valid = record {
       size = P .size;
       channel = P .words .channel-fits;

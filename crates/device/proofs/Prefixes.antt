@@ -1,32 +1,28 @@
 -- What `receive` makes of a record whose first item is a prefix. Assumes nothing.
-use mathlib.Core.Path.{_≡_, refl, sym, ap, _∙_}
+use mathlib.Core.Path.{_≡_, refl, ap, _∙_}
 use mathlib.Core.List.{List}
-use mathlib.Core.Option.{some}
-use Prim.Native.Nat.{ℕ, _+_, _*_, _-_, _≤_, _<_}
+use Prim.Native.Nat.{ℕ, _+_, _*_, _-_, _≤_}
 use native.Mathlib.Omega.{arith}
 use lib.ListN.{length, getD, set, length-set}
 use borrow.Author.Tests.{lt-ltb}
-use Rattle.protocol.specs.Machine.{Item, Round, prefix, established, above, fine, gotten, receive·at}
+use Rattle.protocol.specs.Machine.{prefix, established, above, receive·at}
 use Rattle.sheet.specs.Sheet.{sheet}
 use Rattle.sheet.specs.declared.Answer.the-variants.{Done}
 use Rattle.words.specs.Layout.{QUEUE, ROUND, ITEM, ITEM·NUMBERS, ITEM·PLACES, PREFIX, ESTABLISHED, CHANNEL, REQUEST, CONNECTION, PENDING·LENGTH, WAITING·LENGTH, ITEMS·LENGTH, RECEIVED, PENDING, WAITING, ITEMS, RECORD}
 use Rattle.words.specs.Place.{Out}
 use Rattle.words.proofs.Places.{set-kept, set-new}
 use Rattle.record.specs.Reading.{sheetAt, numbersAt, itemAt, channelOf, requestOf, connectionOf, linkOf, deviceOf}
-use Rattle.record.specs.Valid.{InItem, ValidItem, IsRecord}
+use Rattle.record.specs.Valid.{InItem}
 use Rattle.device.specs.Did.{Did}
 use Rattle.device.specs.Items.{itemsBehind, HasItems, Receivable}
-use Rattle.device.specs.Parts.{roundEntry, itemEntry, PutEntry, EntryBeside, QueueIs, Requeued}
+use Rattle.device.specs.Parts.{roundEntry, itemEntry, PutEntry, QueueIs, Requeued}
 use Rattle.device.specs.Rounds.{roundsOf, HasPending}
-use Rattle.device.proofs.Entries.{round-local, item-local, in-item-same, queue-kept, requeued-outside}
+use Rattle.device.proofs.Entries.{round-local, item-local, queue-kept, requeued-outside}
 use Rattle.device.proofs.Items.{is-prefix}
-use Rattle.device.proofs.Parts.{WordsAre, parts-of, words-stay, pending-stays}
-use Rattle.device.proofs.Receives.{Buffered, first-item, first-beside, has-items, receive-done}
+use Rattle.device.proofs.Parts.{WordsAre, pending-stays}
+use Rattle.device.proofs.Receives.{Buffered, first-item, has-items, receive-done}
 
 module _ (devices cells : ℕ) (xs : List ℕ) (d : ℕ) (A : Receivable devices cells xs d) (e : getD xs ITEMS 0 ≡ PREFIX) where
-  R : IsRecord devices cells xs
-  R = A .recorded
-
   pub word-given : 1 ≤ getD xs (ITEMS + ITEM·NUMBERS + d) 0
   word-given = A .recorded .valid .items 0 (A .one) .prefix-numbers e d (A .device)
 
@@ -89,7 +85,7 @@ module _ (devices cells : ℕ) (xs : List ℕ) (d : ℕ) (A : Receivable devices
           queue-kept (roundEntry cells) (round-local cells few) y2 y WAITING·LENGTH WAITING _ (from-y2 WAITING·LENGTH (λ e. omega arith)) (λ i p q. from-y2 i (λ e. omega arith))
           (rw (number-is, pending1 .is) at (Q .now·is))
 
-      pub prefix-buffered : Buffered devices cells xs (set y2 CHANNEL ESTABLISHED) (prefix (sheetAt cells xs (ITEMS + ITEM·PLACES)) (numbersAt devices xs (ITEMS + ITEM·NUMBERS))) established (above sheet (numbersAt devices xs (ITEMS + ITEM·NUMBERS) d) (deviceOf devices cells xs .pending))
+      prefix-buffered : Buffered devices cells xs (set y2 CHANNEL ESTABLISHED) (prefix (sheetAt cells xs (ITEMS + ITEM·PLACES)) (numbersAt devices xs (ITEMS + ITEM·NUMBERS))) established (above sheet (numbersAt devices xs (ITEMS + ITEM·NUMBERS) d) (deviceOf devices cells xs .pending))
       unfolding y
       prefix-buffered =
           let L = item-local devices cells (A .recorded .few-devices) few in

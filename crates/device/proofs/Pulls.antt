@@ -6,12 +6,11 @@ use Prim.Native.Nat.{ℕ, _+_, _*_, _≤_, _<_}
 use native.Mathlib.Omega.{arith}
 use lib.ListN.{length, getD, set, length-set}
 use Rattle.cells.specs.Cells.{applied}
-use Rattle.cells.specs.declared.Cell.{Cell}
 use Rattle.cells.specs.declared.Cell.the-variants.{Blank}
 use Rattle.protocol.specs.Machine.{Item, Device, fine, sheetAfter, gives, beyond, pull·at}
 use Rattle.sheet.specs.Sheet.{sheet}
 use Rattle.sheet.specs.declared.Answer.the-variants.{Done}
-use Rattle.words.specs.Layout.{CELL, CHANGE, QUEUE, ROUND, ITEM, ITEM·NUMBERS, ITEM·PLACES, PREFIX, LAST, TAKEN, COVERED, PENDING·LENGTH, WAITING·LENGTH, ITEMS·LENGTH, KNOWN, TRANSACTION, RECEIVED, PENDING, WAITING, RECORD}
+use Rattle.words.specs.Layout.{CELL, CHANGE, QUEUE, ROUND, ITEM·NUMBERS, ITEM·PLACES, PREFIX, LAST, TAKEN, COVERED, PENDING·LENGTH, WAITING·LENGTH, ITEMS·LENGTH, KNOWN, TRANSACTION, RECEIVED, PENDING, WAITING, RECORD}
 use Rattle.words.specs.Place.{cellPlace, changePlace, cellAt, changeAt, Beside, Filled, Kept, Out, Valid}
 use Rattle.words.proofs.Places.{set-kept, set-new, cell-local}
 use Rattle.record.specs.Reading.{sheetAt, itemAt, givenBy, deviceOf}
@@ -22,7 +21,7 @@ use Rattle.device.specs.Parts.{PlacesAre, roundEntry, QueueIs, Requeued}
 use Rattle.device.specs.Rounds.{roundsOf, HasPending}
 use Rattle.device.proofs.Entries.{round-local, requeued-outside}
 use Rattle.device.proofs.Items.{is-prefix, is-segment, no-prefix, gives-word, is-empty, is-filled}
-use Rattle.device.proofs.Parts.{Parts, parts-of, did-parts, past-singles, places-put, places-kept, last-stays, covered-stays, words-stay, transaction-stays, buffered-stays, pending-stays, waiting-stays, items-stay}
+use Rattle.device.proofs.Parts.{Parts, parts-of, did-parts, past-singles, places-kept, last-stays, covered-stays, words-stay, transaction-stays, buffered-stays, pending-stays, waiting-stays, items-stay}
 
 -- The buffered item is applied to the known sheet.
 module _ (devices cells : ℕ) (xs : List ℕ) (len : length xs ≡ RECORD) (few : cells ≤ 64) (K : Valid cellPlace xs KNOWN cells) (ok : ValidItem devices cells xs RECEIVED) where

@@ -12,10 +12,10 @@ use Rattle.protocol.specs.declared.Refusal.the-variants.{PushesSpent}
 use Rattle.protocol.specs.Machine.{Device, fine, push·at}
 use Rattle.sheet.specs.Sheet.{sheet}
 use Rattle.sheet.specs.declared.Answer.the-variants.{Done, Refused}
-use Rattle.words.specs.Layout.{CHANGE, LAST, TAKEN, COVERED, PENDING·LENGTH, WAITING·LENGTH, ITEMS·LENGTH, KNOWN, TRANSACTION, BUFFERED, RECEIVED, RECORD}
+use Rattle.words.specs.Layout.{CHANGE, LAST, TAKEN, COVERED, PENDING·LENGTH, WAITING·LENGTH, ITEMS·LENGTH, TRANSACTION, BUFFERED, RECEIVED, RECORD}
 use Rattle.words.specs.Place.{changePlace, changeAt, Filled, Out}
-use Rattle.words.proofs.Places.{Same, set-kept, set-new, change-local}
-use Rattle.record.specs.Reading.{changesAt, linkOf, deviceOf}
+use Rattle.words.proofs.Places.{set-kept, set-new, change-local}
+use Rattle.record.specs.Reading.{changesAt, deviceOf}
 use Rattle.record.specs.Valid.{InUse, IsRecord}
 use Rattle.record.proofs.Loops.{joined-changes, cleared}
 use Rattle.device.specs.Did.{Did}

@@ -1,24 +1,22 @@
 -- What `receive` makes of a record, whichever item it takes. Assumes nothing.
 use mathlib.Core.Path.{_≡_, refl, sym, ap, _∙_}
-use mathlib.Core.Bool.{Bool}
-use mathlib.Core.List.{List, [], _∷_}
-use mathlib.Core.Option.{Option, none, some}
+use mathlib.Core.List.{List, _∷_}
+use mathlib.Core.Option.{some}
 use Prim.Native.Nat.{ℕ, zero, suc, _+_, _*_, _≤_, _<_}
 use native.Mathlib.Omega.{arith}
 use lib.ListN.{length, getD, drop}
 use Rattle.protocol.specs.declared.Refusal.the-variants.{NoChannel, NoItem}
-use Rattle.protocol.specs.Machine.{Channel, Item, Round, fine, isOff, gotten, take·first, receive·at}
+use Rattle.protocol.specs.Machine.{Channel, Item, Round, fine, gotten, take·first, receive·at}
 use Rattle.sheet.specs.Sheet.{sheet}
 use Rattle.sheet.specs.declared.Answer.the-variants.{Done, Refused}
-use Rattle.words.specs.Layout.{QUEUE, ROUND, ITEM, LAST, TAKEN, CHANNEL, COVERED, PENDING·LENGTH, WAITING·LENGTH, ITEMS·LENGTH, KNOWN, RECEIVED, PENDING, WAITING, ITEMS, RECORD}
+use Rattle.words.specs.Layout.{CHANGE, QUEUE, ROUND, ROUND·CHANGES, ITEM, LAST, TAKEN, CHANNEL, COVERED, PENDING·LENGTH, WAITING·LENGTH, ITEMS·LENGTH, KNOWN, RECEIVED, PENDING, WAITING, ITEMS, RECORD}
 use Rattle.words.specs.Place.{Out}
-use Rattle.words.proofs.Places.{Same}
-use Rattle.record.specs.Reading.{queue, itemAt, channelOf, linkOf, deviceOf}
+use Rattle.record.specs.Reading.{queue, itemAt, linkOf, deviceOf}
 use Rattle.record.specs.Valid.{InItem, InUse, ValidItem, IsRecord}
 use Rattle.record.proofs.Meanings.{empty-queue}
 use Rattle.record.proofs.Queues.{queue-first}
 use Rattle.device.specs.Did.{Did}
-use Rattle.device.specs.Items.{itemsOf, itemsBehind, HasItems, Receivable}
+use Rattle.device.specs.Items.{itemsOf, itemsBehind, HasItems}
 use Rattle.device.specs.Parts.{roundEntry, itemEntry, EntryBeside, QueueIs, Requeued}
 use Rattle.device.proofs.Entries.{round-local, item-local, in-item-same, queue-kept, requeued-outside}
 use Rattle.device.proofs.Items.{is-filled}
@@ -65,7 +63,7 @@ pub record Buffered (devices cells : ℕ) (xs y : List ℕ) (v : Item sheet) (c 
   pub words : WordsAre y c (deviceOf devices cells xs .link .request) (deviceOf devices cells xs .link .connection)
   pub waiting : QueueIs (roundEntry cells) y WAITING·LENGTH WAITING w
   pub outside : (i : ℕ) → (i ≡ CHANNEL → ⊥) → (i ≡ WAITING·LENGTH → ⊥) → Out RECEIVED ITEM i → Out WAITING (ROUND * QUEUE) i → getD y i 0 ≡ getD xs i 0
-  pub kept : (i : ℕ) → KNOWN ≤ i → (InItem devices cells y RECEIVED i → ⊥) → ((j : ℕ) → j < getD y WAITING·LENGTH 0 → (WAITING + ROUND * j ≤ i) → (i < WAITING + ROUND * j + 1 + 2 * cells) → ⊥) → getD y i 0 ≡ getD xs i 0
+  pub kept : (i : ℕ) → KNOWN ≤ i → (InItem devices cells y RECEIVED i → ⊥) → ((j : ℕ) → j < getD y WAITING·LENGTH 0 → WAITING + ROUND * j ≤ i → i < WAITING + ROUND * j + ROUND·CHANGES + CHANGE * cells → ⊥) → getD y i 0 ≡ getD xs i 0
 
 module _ (devices cells : ℕ) (xs y : List ℕ) (R : IsRecord devices cells xs) (v : Item sheet) (c : Channel) (w : List (Round sheet)) (B : Buffered devices cells xs y v c w) where
   few : cells ≤ 64

@@ -2,11 +2,11 @@
 use mathlib.Core.Path.{_≡_, refl, sym, ap, _∙_}
 use mathlib.Core.Bool.{Bool, true, false}
 use mathlib.Core.List.{List, []}
-use Prim.Native.Nat.{ℕ, zero, suc, _+_, _*_, _≤_, _<_}
+use Prim.Native.Nat.{ℕ, zero, suc, _≤_, _<_}
 use native.Mathlib.Omega.{arith}
 use lib.ListN.{length, getD, set, length-set}
 use Rattle.protocol.specs.declared.Refusal.the-variants.{NothingToDrop}
-use Rattle.protocol.specs.Machine.{choose, fine, tell, unheld, stale, Link, isOff, isHeld, withLink, renewed, ask·at, drop·at, refused}
+use Rattle.protocol.specs.Machine.{choose, unheld, stale, Link, isHeld, withLink, renewed, ask·at, drop·at}
 use Rattle.sheet.specs.Sheet.{sheet}
 use Rattle.sheet.specs.declared.Answer.{Answer}
 use Rattle.sheet.specs.declared.Answer.the-variants.{Done, Refused}

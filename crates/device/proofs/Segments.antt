@@ -1,14 +1,14 @@
 -- What `receive` makes of a record whose first item is a segment. Assumes nothing.
-use mathlib.Core.Path.{_≡_, refl, sym, ap, _∙_}
+use mathlib.Core.Path.{_≡_, refl, ap, _∙_}
 use mathlib.Core.List.{List}
 use mathlib.Core.Option.{Option, none, some}
-use Prim.Native.Nat.{ℕ, _+_, _*_, _≤_, _<_}
+use Prim.Native.Nat.{ℕ, _+_, _<_}
 use native.Mathlib.Omega.{arith}
 use lib.ListN.{length, getD}
 use Rattle.protocol.specs.Machine.{Item, segment, buffer, fine, gotten, receive·at}
 use Rattle.sheet.specs.Sheet.{sheet}
 use Rattle.sheet.specs.declared.Answer.the-variants.{Done}
-use Rattle.words.specs.Layout.{ITEM, ITEM·NUMBERS, ITEM·PLACES, SEGMENT, CHANNEL, WAITING·LENGTH, ITEMS·LENGTH, RECEIVED, WAITING, ITEMS, RECORD}
+use Rattle.words.specs.Layout.{ITEM, ITEM·NUMBERS, ITEM·PLACES, SEGMENT, WAITING·LENGTH, ITEMS·LENGTH, RECEIVED, ITEMS, RECORD}
 use Rattle.words.specs.Place.{Out}
 use Rattle.record.specs.Reading.{changesAt, givenAt, itemAt, receivedAt, deviceOf}
 use Rattle.record.specs.Valid.{IsRecord}

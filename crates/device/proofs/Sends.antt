@@ -1,5 +1,5 @@
 -- What `send` makes of a record. Assumes nothing.
-use mathlib.Core.Path.{_≡_, refl, sym, ap, _∙_}
+use mathlib.Core.Path.{_≡_, refl, ap, _∙_}
 use mathlib.Core.Bool.{Bool, true, false, not}
 use mathlib.Core.List.{List, [], _∷_, _++_}
 use Prim.Native.Nat.{ℕ, _+_, _*_, _≤_, _<_}
@@ -12,7 +12,7 @@ use Rattle.protocol.specs.declared.Refusal.the-variants.{NotEstablished, NoPush
 use Rattle.protocol.specs.Machine.{fine, unless, isEstablished, sentFrom, roundOf, send·at}
 use Rattle.sheet.specs.Sheet.{sheet}
 use Rattle.sheet.specs.declared.Answer.the-variants.{Done, Refused}
-use Rattle.words.specs.Layout.{CHANGE, QUEUE, ROUND, ESTABLISHED, LAST, TAKEN, CHANNEL, COVERED, PENDING·LENGTH, WAITING·LENGTH, ITEMS·LENGTH, KNOWN, TRANSACTION, BUFFERED, RECEIVED, PENDING, WAITING, ITEMS, RECORD}
+use Rattle.words.specs.Layout.{CHANGE, QUEUE, ROUND, ESTABLISHED, LAST, TAKEN, CHANNEL, COVERED, PENDING·LENGTH, WAITING·LENGTH, ITEMS·LENGTH, KNOWN, BUFFERED, RECEIVED, PENDING, WAITING, ITEMS, RECORD}
 use Rattle.words.specs.Place.{changePlace, Filled, Out}
 use Rattle.words.proofs.Places.{set-kept, set-new, change-local}
 use Rattle.record.specs.Reading.{channelOf, roundAt, linkOf, deviceOf}

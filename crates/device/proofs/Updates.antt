@@ -1,5 +1,5 @@
 -- What `update` makes of a record. Assumes nothing.
-use mathlib.Core.Path.{_≡_, refl, sym, ap, _∙_, fun-ext}
+use mathlib.Core.Path.{_≡_, refl, ap, _∙_, fun-ext}
 use mathlib.Core.Bool.{Bool, true, false}
 use mathlib.Core.Logic.{⊎-elim}
 use mathlib.Core.List.{List}
@@ -7,7 +7,7 @@ use Prim.Native.Nat.{ℕ, _+_, _*_, _≤_, _<_}
 use native.Mathlib.Omega.{arith}
 use lib.Dec.{eqb}
 use lib.ListN.{length, getD}
-use borrow.Author.Tests.{le-leb, lt-leb, lt-ltb, le-ltb, eq-eqb, eqb-true, eqb-false}
+use borrow.Author.Tests.{le-leb, lt-leb, lt-ltb, le-ltb, eqb-true, eqb-false}
 use Rattle.cells.specs.Cells.{joined, changeOf}
 use Rattle.cells.specs.Stored.{updateFinite, changeFinite}
 use Rattle.cells.specs.declared.Change.{Change}
@@ -15,22 +15,22 @@ use Rattle.cells.specs.declared.Change.the-variants.{Nothing}
 use Rattle.cells.specs.declared.Update.{Update}
 use Rattle.cells.proofs.StoredForm.{joined-finite}
 use Rattle.protocol.specs.declared.Refusal.the-variants.{NoCell, NotFinite}
-use Rattle.protocol.specs.Machine.{choose, fine, update·at}
+use Rattle.protocol.specs.Machine.{choose, update·at}
 use Rattle.protocol.specs.Machine as machine
 use Rattle.sheet.specs.Changes.{oneChange}
 use Rattle.sheet.specs.Sheet.{sheet}
 use Rattle.sheet.specs.declared.Answer.the-variants.{Done, Refused}
-use Rattle.words.specs.Layout.{CHANGE, LAST, TAKEN, COVERED, PENDING·LENGTH, WAITING·LENGTH, ITEMS·LENGTH, KNOWN, TRANSACTION, BUFFERED, RECORD}
+use Rattle.words.specs.Layout.{CHANGE, LAST, TAKEN, COVERED, PENDING·LENGTH, WAITING·LENGTH, ITEMS·LENGTH, TRANSACTION, BUFFERED, RECORD}
 use Rattle.words.specs.Place.{changePlace, changeAt, changeOk, Put}
 use Rattle.words.proofs.Places.{Same, lt-or-ge, change-local, change-finite}
 use Rattle.record.specs.Reading.{placesAt, changesAt, deviceOf}
 use Rattle.record.specs.Valid.{InUse, IsRecord}
 use Rattle.device.specs.Did.{Did, updateOf}
 use Rattle.device.specs.Parts.{PlacesAre}
-use Rattle.device.proofs.Parts.{Parts, parts-of, did-parts, last-stays, covered-stays, words-stay, known-stays, buffered-stays, received-stays, pending-stays, waiting-stays, items-stay}
+use Rattle.device.proofs.Parts.{Parts, did-parts, last-stays, covered-stays, words-stay, known-stays, buffered-stays, received-stays, pending-stays, waiting-stays, items-stay}
 use Rattle.device.proofs.Steps.{told}
 
-pub update-finite : (u : Update) → updateFinite u ≡ true → changeFinite (changeOf u) ≡ true
+update-finite : (u : Update) → updateFinite u ≡ true → changeFinite (changeOf u) ≡ true
 update-finite (Update.Set v) e = e
 update-finite (Update.Add n) e = refl
 

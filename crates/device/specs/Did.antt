@@ -4,8 +4,8 @@ use mathlib.Core.Bool.{Bool}
 use mathlib.Core.List.{List}
 use Prim.Native.Nat.{ℕ}
 use lib.ListN.{getD}
-use Rattle.protocol.specs.Machine.{Channel, Device, Local, Step, fine, tell, renewed, withLink, update·at, push·at, send·at, ask·at, drop·at, receive·at, pull·at}
 use Rattle.cells.specs.declared.Update.{Update}
+use Rattle.protocol.specs.Machine.{Channel, Device, Local, Step, fine, tell, renewed, withLink, update·at, push·at, send·at, ask·at, drop·at, receive·at, pull·at}
 use Rattle.protocol.specs.Machine as machine
 use Rattle.sheet.specs.Changes.{CellUpdate}
 use Rattle.sheet.specs.Sheet.{sheet}

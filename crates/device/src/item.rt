@@ -1,9 +1,8 @@
 // Items: a prefix or a segment, in the receive buffer and in the queue of items.
 ghost use Prim.Native.Nat.{_+_, _*_, _-_, _≤_};
-ghost use Rattle.words.specs.Layout.{ITEM, ITEMS, ITEMS·LENGTH, RECEIVED};
+ghost use Rattle.words.specs.Layout.{ITEM, ITEMS, ITEMS·LENGTH};
 ghost use Rattle.protocol.specs.Machine.{joinItem};
-ghost use Rattle.record.specs.Reading.{itemAt, receivedAt};
-ghost use Rattle.record.specs.Valid.{IsRecord};
+ghost use Rattle.record.specs.Reading.{itemAt};
 ghost use Rattle.sheet.specs.Sheet.{sheet};
 ghost use Rattle.device.specs.Items.{itemsBehind, Joinable, HasItems};
 ghost use Rattle.device.specs.Parts.{itemEntry, PutEntry, EntryBeside, Movable, Moved, Requeued};

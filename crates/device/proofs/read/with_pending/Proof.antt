@@ -1,11 +1,9 @@
 -- `device::read::with_pending` meets its contract: each turn applies one round more.
 -- Assumes nothing.
 use borrow.Author.Needs.{needs}
-use mathlib.Core.Path.{_≡_, refl}
+use mathlib.Core.Path.{_≡_}
 use Prim.Native.Nat.{_≤_, _-_}
 use native.Mathlib.Omega.{arith}
-use lib.ListN.{getD}
-use Rattle.words.specs.Layout.{PENDING·LENGTH}
 use Rattle.device.proofs.Looks.{after-rounds, none-applied, one-applied, all-applied}
 use Rattle.device.proofs.read.with_pending.Statement.{statement}
 use Rattle.device.proofs.read.with_pending.Tie as tie

@@ -1,6 +1,6 @@
 -- `device::update::update` meets its contract: what it makes of the record is the law's.
 -- Assumes nothing.
-use mathlib.Core.Path.{sym, ap, _∙_}
+use mathlib.Core.Path.{sym, _∙_}
 use native.Mathlib.Omega.{arith}
 use Rattle.cells.specs.Cells.{joined}
 use borrow.Author.Tests.{not-true, not-false}
