@@ -27,14 +27,14 @@ use Rattle.device.proofs.Items.{is-prefix, is-segment, no-prefix}
 
 -- An item is stored by its kind, its numbers and its places.
 module _ (devices cells : ℕ) (xs ys : List ℕ) (o : ℕ) where
-  prefix-made : (s : ℕ → Cell) (ns : ℕ → ℕ) → getD ys o 0 ≡ PREFIX → ((k : ℕ) → k < devices → 1 ≤ getD ys (o + ITEM·NUMBERS + k) 0) → numbersAt devices ys (o + ITEM·NUMBERS) ≡ ns → Valid cellPlace ys (o + ITEM·PLACES) cells → sheetAt cells ys (o + ITEM·PLACES) ≡ s → ((i : ℕ) → (i ≡ o → ⊥) → Out (o + ITEM·NUMBERS) devices i → Out (o + ITEM·PLACES) (CELL * cells) i → getD ys i 0 ≡ getD xs i 0) → PutEntry (itemEntry devices cells) xs ys o (prefix s ns)
+  pub prefix-made : (s : ℕ → Cell) (ns : ℕ → ℕ) → getD ys o 0 ≡ PREFIX → ((k : ℕ) → k < devices → 1 ≤ getD ys (o + ITEM·NUMBERS + k) 0) → numbersAt devices ys (o + ITEM·NUMBERS) ≡ ns → Valid cellPlace ys (o + ITEM·PLACES) cells → sheetAt cells ys (o + ITEM·PLACES) ≡ s → ((i : ℕ) → (i ≡ o → ⊥) → Out (o + ITEM·NUMBERS) devices i → Out (o + ITEM·PLACES) (CELL * cells) i → getD ys i 0 ≡ getD xs i 0) → PutEntry (itemEntry devices cells) xs ys o (prefix s ns)
   prefix-made s ns k w n v p keep = record {
     is = is-prefix devices cells ys o k ∙ (λ i. prefix (p i) (n i));
     valid = record { kind-from-1 = omega (arith, k); kind-to-2 = omega (arith, k); prefix-numbers = λ e. w; prefix-places = λ e. v; segment-places = λ e. absurd (omega (arith, k, e)) };
     kept = λ i out. keep i (λ e. out (rw e InItem.kind)) (λ a b. out (InItem.number a b)) (λ a b. out (InItem.cell k a b));
   }
 
-  segment-made : (b : ℕ → Change) (ms : ℕ → Option ℕ) → getD ys o 0 ≡ SEGMENT → givenAt devices ys (o + ITEM·NUMBERS) ≡ ms → Valid changePlace ys (o + ITEM·PLACES) cells → changesAt cells ys (o + ITEM·PLACES) ≡ b → ((i : ℕ) → (i ≡ o → ⊥) → Out (o + ITEM·NUMBERS) devices i → Out (o + ITEM·PLACES) (CHANGE * cells) i → getD ys i 0 ≡ getD xs i 0) → PutEntry (itemEntry devices cells) xs ys o (segment b ms)
+  pub segment-made : (b : ℕ → Change) (ms : ℕ → Option ℕ) → getD ys o 0 ≡ SEGMENT → givenAt devices ys (o + ITEM·NUMBERS) ≡ ms → Valid changePlace ys (o + ITEM·PLACES) cells → changesAt cells ys (o + ITEM·PLACES) ≡ b → ((i : ℕ) → (i ≡ o → ⊥) → Out (o + ITEM·NUMBERS) devices i → Out (o + ITEM·PLACES) (CHANGE * cells) i → getD ys i 0 ≡ getD xs i 0) → PutEntry (itemEntry devices cells) xs ys o (segment b ms)
   segment-made b ms k n v p keep = record {
     is = is-segment devices cells ys o k ∙ (λ i. segment (p i) (n i));
     valid = record { kind-from-1 = omega (arith, k); kind-to-2 = omega (arith, k); prefix-numbers = λ e. absurd (omega (arith, k, e)); prefix-places = λ e. absurd (omega (arith, k, e)); segment-places = λ e. v };
@@ -99,15 +99,15 @@ module _ (devices cells : ℕ) (xs : List ℕ) (to from : ℕ) (few-devices : de
         (segment-made devices cells xs y2 to _ _ (kind-is changePlace Nothing (omega arith) change-local y2 F ∙ e) (below-same devices _ _ none (λ k h. ap givenBy (n k h))) (F .valid) (places-are changePlace Nothing (omega arith) change-local y2 F) (keep changePlace Nothing (omega arith) change-local y2 F))
 
 -- A number that is given decides.
-given-word : (a b : ℕ) → laterNumber a b - 1 ≡ given (givenBy b) (a - 1)
+pub given-word : (a b : ℕ) → laterNumber a b - 1 ≡ given (givenBy b) (a - 1)
 given-word a zero = refl
 given-word a (suc k) = let e : suc k - 1 ≡ k = omega arith in e
 
-later-word : (a b : ℕ) → givenBy (laterNumber a b) ≡ later (givenBy a) (givenBy b)
+pub later-word : (a b : ℕ) → givenBy (laterNumber a b) ≡ later (givenBy a) (givenBy b)
 later-word a zero = refl
 later-word a (suc k) = refl
 
-later-positive : (a b : ℕ) → 1 ≤ a → 1 ≤ laterNumber a b
+pub later-positive : (a b : ℕ) → 1 ≤ a → 1 ≤ laterNumber a b
 later-positive a zero h = h
 later-positive a (suc k) h = omega arith
 

@@ -3,3 +3,5 @@ pub mod GatherAll
 pub mod Prefixes
 pub mod EndLaws
 pub mod Turns
+pub mod Delivers
+pub mod Crashes

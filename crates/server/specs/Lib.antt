@@ -2,3 +2,4 @@ pub mod Turn
 pub mod Ends
 pub mod Gather
 pub mod Prefix
+pub mod Deliver

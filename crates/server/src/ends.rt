@@ -5,10 +5,14 @@ ghost use Rattle.sheet.specs.Sheet.{sheet};
 ghost use Rattle.record.specs.Reading.{requestOf};
 ghost use Rattle.record.specs.Valid.{IsRecord};
 ghost use Rattle.device.specs.Did.{Did};
-ghost use Rattle.server.specs.Ends.{end·at};
+ghost use Rattle.table.specs.Promise.{Each};
+ghost use Rattle.server.specs.Ends.{end·at, Ended};
+ghost use Rattle.server.specs.Gather.{TableReady};
 use protocol::Refusal;
 use sheet::Answer;
 use words::layout::CONNECTION;
+use words::layout::RECORD;
+use words::layout::RECORDS;
 use words::layout::REQUEST;
 use words::layout::STALE;
 use words::layout::WAITING_LENGTH;
@@ -28,7 +32,7 @@ pub fn end_connection(r: &mut [u64], devices: usize, cells: usize, request: u64)
 }
 
 // serverdrop on a device's record.
-pub fn serverdrop(r: &mut [u64], devices: usize, cells: usize) -> Answer
+pub fn drop_connection(r: &mut [u64], devices: usize, cells: usize) -> Answer
     requires { ⌜ IsRecord devices cells (now r) ⌝ }
     ensures { λ a. ⌜ Did devices cells (serverdrop·at sheet) (now (r .entry)) a (now (r .exit)) ⌝ }
 {
@@ -37,4 +41,18 @@ pub fn serverdrop(r: &mut [u64], devices: usize, cells: usize) -> Answer
     }
     let request = r[REQUEST];
     end_connection(r, devices, cells, request)
+}
+
+// Ends every connection and every request.
+pub fn end_all(t: &mut [u64], devices: usize, cells: usize)
+    requires { ⌜ TableReady (now t) devices cells ⌝ }
+    ensures { λ _. ⌜ Each (λ d. Ended devices cells) (now (t .entry)) (now (t .exit)) devices ⌝ }
+{
+    let mut d = 0;
+    while d < devices {
+        let a = RECORDS + RECORD * d;
+        let e = a + RECORD;
+        end_connection(&mut t[a..e], devices, cells, 0);
+        d += 1;
+    }
 }

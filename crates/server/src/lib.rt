@@ -1,4 +1,6 @@
 // The server and the link on the lent table.
+pub mod calls;
+mod deliver;
 mod ends;
 pub mod gather;
 pub mod prefix;

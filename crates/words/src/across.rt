@@ -2,12 +2,13 @@
 ghost use Prim.Native.Nat.{_+_, _*_, _≤_};
 ghost use lib.ListN.{length, getD};
 ghost use Rattle.words.specs.Layout.{CELL, CHANGE};
-ghost use Rattle.words.specs.Place.{cellAt, changeAt, cellPlace, changePlace, Filled, Numbers, Valid, Across};
+ghost use Rattle.words.specs.Place.{cellAt, changeAt, cellPlace, changePlace, Filled, Numbers, Valid, Across, laterNumber};
 ghost use Rattle.cells.specs.Cells.{applied, joined};
 use crate::place::get_cell;
 use crate::place::get_change;
 use crate::place::put_cell;
 use crate::place::put_change;
+use crate::run::later_number;
 use cells::joining::apply;
 use cells::joining::join;
 
@@ -73,6 +74,18 @@ pub fn copy_numbers_from(t: &mut [u64], to: usize, s: &[u64], from: usize, n: us
     let mut i = 0;
     while i < n {
         t[to + i] = s[from + i];
+        i += 1;
+    }
+}
+
+// Takes the n numbers of s from `from` on over to `to` on, where they are given: 0 gives none.
+pub fn take_numbers_from(t: &mut [u64], to: usize, s: &[u64], from: usize, n: usize)
+    requires { ⌜ (to + n ≤ length (now t)) × (from + n ≤ length (now s)) ⌝ }
+    ensures { λ _. ⌜ Numbers (now (t .entry)) (now (t .exit)) to n (λ k. laterNumber (getD (now (t .entry)) (to + k) 0) (getD (now (s .entry)) (from + k) 0)) ⌝ }
+{
+    let mut i = 0;
+    while i < n {
+        t[to + i] = later_number(t[to + i], s[from + i]);
         i += 1;
     }
 }

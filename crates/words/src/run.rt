@@ -118,7 +118,8 @@ pub fn clear_numbers(t: &mut [u64], at: usize, n: usize)
     }
 }
 
-fn later_number(old: u64, new: u64) -> u64
+// The later of two numbers, where it is given.
+pub fn later_number(old: u64, new: u64) -> u64
     ensures { λ r. ⌜ r ≡ laterNumber old new ⌝ }
 {
     if new == 0 {

@@ -1,9 +1,9 @@
--- `server::ends::serverdrop` meets its contract: there is no connection, or it ends.
+-- `server::ends::drop_connection` meets its contract: there is no connection, or it ends.
 -- Assumes nothing.
 use Rattle.server.proofs.EndLaws.{serverdrop-refused, serverdrop-done}
 use borrow.Author.Needs.{needs}
-use Rattle.server.proofs.ends.serverdrop.Statement.{statement}
-use Rattle.server.proofs.ends.serverdrop.Tie as tie
+use Rattle.server.proofs.ends.drop_connection.Statement.{statement}
+use Rattle.server.proofs.ends.drop_connection.Tie as tie
 
 slice-read-if1 : tie.Need-slice-read-if1
 slice-read-if1 c = search needs
@@ -23,8 +23,8 @@ same-length c = search needs
 returns-2 : tie.Need-returns-2
 returns-2 c = serverdrop-done _ _ _ _ _ (c .before .before .before .before .before .if1 .left) (c .before .before .end-connection .ensures)
 
-pub serverdrop-spec : {M : Type 1} → statement M
-serverdrop-spec =
+pub drop-connection-spec : {M : Type 1} → statement M
+drop-connection-spec =
     tie.close
     (tie.spec
     slice-read-if1
