@@ -1,17 +1,15 @@
 -- Arrays over any code, and codes that are one token. Assumes nothing.
 use mathlib.Core.List.{List, _++_, append-assoc}
 use mathlib.Core.Path.{_∙_, _≡_, ap, subst, sym}
-use Prim.Native.Nat.{_+_, _≤_, ℕ}
-use native.Mathlib.Omega.{arith}
-use lib.ListN.{drop, length, length-append}
-use Rattle.cbor.specs.Bytes.{Got, Wrote}
-use Rattle.cbor.specs.Code.{Here, HereEach, Listed, Nowhere, NowhereEach, Within, arrayOf, each, tab}
+use Prim.Native.Nat.{ℕ}
+use lib.ListN.{drop, length}
+use Rattle.cbor.specs.Bytes.{Got}
+use Rattle.cbor.specs.Code.{Here, HereEach, Listed, Nowhere, NowhereEach, Within, arrayOf, each}
 use Rattle.cbor.specs.Head.{headOf}
 use Rattle.cbor.specs.Token.{TokenFits, tokenOf}
 use Rattle.cbor.specs.declared.token.Token.{Token}
 use Rattle.cbor.proofs.Apart.{Free, array-head-free, token-free}
-use Rattle.cbor.proofs.Codes.{each-inj, got-then, length-tab}
-use Rattle.cbor.proofs.Writing.{wrote-as, wrote-then}
+use Rattle.cbor.proofs.Codes.{each-inj, got-then}
 
 module _ {A : Type 0} (f : A → List ℕ) (Ok : A → Type 0) (lo hi : ℕ) where
   array-split : (l : List A) (r : List ℕ) → arrayOf f l ++ r ≡ headOf 4 (length l) ++ (each f l ++ r)
@@ -37,17 +35,6 @@ module _ {A : Type 0} (f : A → List ℕ) (Ok : A → Type 0) (lo hi : ℕ) whe
   array-free free k l r q ok ol e =
       let c = array-head-free (length k) (length l) (each f k ++ r) (each f l ++ q) (ok .count .2) (ol .count .2) (sym (array-split k r) ∙ e ∙ array-split l q) in
       each-inj f Ok free k l r q (ok .every) (ol .every) (c .0) (c .1)
-
--- an array of the first n values of g, written after its head
-module _ {A : Type 0} (f : A → List ℕ) (n : ℕ) (g : ℕ → A) where
-  pub length-array : length (arrayOf f (tab n g)) ≡ length (headOf 4 n) + length (each f (tab n g))
-  unfolding arrayOf
-  length-array = length-append (headOf 4 (length (tab n g))) (each f (tab n g)) ∙ ap (λ (k : ℕ). length (headOf 4 k) + length (each f (tab n g))) (length-tab n g)
-
-  pub array-written : {o o′ o″ : List ℕ} {p q r : ℕ} → p + length (arrayOf f (tab n g)) ≤ length o → Wrote o p (headOf 4 n) o′ q → Wrote o′ q (each f (tab n g)) o″ r → Wrote o p (arrayOf f (tab n g)) o″ r
-  unfolding arrayOf
-  array-written room a b =
-      wrote-as (ap (λ (k : ℕ). headOf 4 k ++ each f (tab n g)) (sym (length-tab n g))) (wrote-then (omega (arith, length-array)) a b)
 
 -- a code that is the token of its value
 module _ {A : Type 0} (f : A → List ℕ) (Ok : A → Type 0) (K : A → Token) (form : (a : A) → f a ≡ tokenOf (K a)) (fits : (a : A) → Ok a → TokenFits (K a)) where

@@ -2,27 +2,18 @@
 use mathlib.Core.List.{List, [], _++_, _∷_, append-assoc, append-nil}
 use mathlib.Core.Path.{_∙_, _≡_, ap, refl, sym}
 use Prim.Native.Nat.{_*_, _+_, _<_, _≤_, suc, zero, ℕ}
-use native.Mathlib.Decide.{decLt}
 use native.Mathlib.Nat.{add-zero}
-use native.Mathlib.Numerals.{add-one}
 use native.Mathlib.Omega.{arith}
 use lib.ListN.{drop, getD, length, length-append}
-use Rattle.cbor.specs.Bytes.{Got, Wrote}
-use Rattle.cbor.specs.Code.{All, Here, HereEach, Nowhere, NowhereEach, each, tab}
+use Rattle.cbor.specs.Bytes.{Got}
+use Rattle.cbor.specs.Code.{All, Here, HereEach, Nowhere, NowhereEach, each}
 use Rattle.cbor.proofs.Apart.{Free}
-use Rattle.cbor.proofs.Writing.{wrote-none, wrote-then}
 
 module _ {A : Type 0} (f : A → List ℕ) where
   pub each-snoc : (l : List A) (a : A) → each f (l ++ (a ∷ [])) ≡ each f l ++ f a
   unfolding each
   each-snoc [] a = append-nil (f a)
   each-snoc (b ∷ l) a = ap (λ (x : List ℕ). f b ++ x) (each-snoc l a) ∙ sym (append-assoc (f b) (each f l) (f a))
-
-  -- codes of one length
-  pub length-each : (k : ℕ) → ((a : A) → length (f a) ≡ k) → (l : List A) → length (each f l) ≡ length l * k
-  unfolding each
-  length-each k h [] = sym (omega arith)
-  length-each k h (a ∷ l) = omega (arith, length-append (f a) (each f l), h a, length-each k h l)
 
   -- codes of at most one length
   pub each-bound : (Ok : A → Type 0) (k : ℕ) → ((a : A) → Ok a → length (f a) ≤ k) → (l : List A) → All Ok l → length (each f l) ≤ length l * k
@@ -95,43 +86,3 @@ module _ {A : Type 0} (f : A → List ℕ) (Ok : A → Type 0) (free : Free f Ok
   broken s p q i n k v h absent l r e ol d =
       let m = more k l (drop q s) r (v .1) ol (omega (arith, v .0)) (sym (v .2 .here) ∙ d) in
       absent (m .0) (m .1) (m .2) (m .3)
-
--- the first values of g, written one by one
-module _ {A : Type 0} (f : A → List ℕ) (g : ℕ → A) where
-  pub each-tab : (i : ℕ) → each f (tab (i + 1) g) ≡ each f (tab i g) ++ f (g i)
-  unfolding tab
-  each-tab i = rw add-one (each-snoc f (tab i g) (g i))
-
-  -- what stands below n takes no more room than all of it
-  one-more-room : (i n : ℕ) → Dec (i < suc n) → i ≤ suc n → (i ≤ n → length (each f (tab i g)) ≤ length (each f (tab n g))) → length (each f (tab i g)) ≤ length (each f (tab (suc n) g))
-  unfolding tab
-  one-more-room i n (yes l) h k = omega (arith, k (omega arith), ap length (each-snoc f (tab n g) (g n)), length-append (each f (tab n g)) (f (g n)))
-  one-more-room i n (no l) h k = let e : i ≡ suc n = omega arith in rw e (omega arith)
-
-  pub each-room : (i n : ℕ) → i ≤ n → length (each f (tab i g)) ≤ length (each f (tab n g))
-  each-room i zero h = let e : i ≡ 0 = omega arith in rw e (omega arith)
-  each-room i (suc n) h = one-more-room i n (decLt i (suc n)) h (each-room i n)
-
-  module _ {o o′ : List ℕ} {p q i n : ℕ} (below : i < n) (room : p + length (each f (tab n g)) ≤ length o) (v : Wrote o p (each f (tab i g)) o′ q) where
-    next-room : p + length (each f (tab i g)) + length (f (g i)) ≤ length o
-    next-room = omega (arith, each-room (i + 1) n (omega arith), ap length (each-tab i), length-append (each f (tab i g)) (f (g i)))
-
-    pub room-more : length o′ ≡ length o → q + length (f (g i)) ≤ length o′
-    room-more k = omega (arith, next-room, v .next)
-
-    pub wrote-more : {o″ : List ℕ} {r : ℕ} → Wrote o′ q (f (g i)) o″ r → Wrote o p (each f (tab (i + 1) g)) o″ r
-    wrote-more w = rw (each-tab i) (wrote-then (omega (arith, next-room)) v w)
-
-  pub wrote-zero : (o : List ℕ) (p : ℕ) → Wrote o p (each f (tab 0 g)) o p
-  unfolding each tab
-  wrote-zero o p = wrote-none o p
-
-pub length-tab : {A : Type 0} (n : ℕ) (g : ℕ → A) → length (tab n g) ≡ n
-unfolding tab
-length-tab zero g = refl
-length-tab (suc n) g = length-snoc (tab n g) (g n) ∙ ap (λ (k : ℕ). k + 1) (length-tab n g) ∙ add-one n
-
-pub all-tab : {A : Type 0} (Ok : A → Type 0) (n : ℕ) (g : ℕ → A) → ((i : ℕ) → i < n → Ok (g i)) → All Ok (tab n g)
-unfolding tab All
-all-tab Ok zero g h = tt
-all-tab Ok (suc n) g h = all-snoc Ok (tab n g) (g n) (all-tab Ok n g (λ i l. h i (omega arith))) (h n (omega arith))

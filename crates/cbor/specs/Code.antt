@@ -1,7 +1,7 @@
 -- What a reader promises, relative to an encoder f of the values that are Ok, and arrays over any encoder. Assumes nothing.
 use mathlib.Core.List.{List, [], _∷_, _++_}
 use mathlib.Core.Path.{_≡_}
-use Prim.Native.Nat.{ℕ, zero, suc, _^_, _≤_, _<_}
+use Prim.Native.Nat.{ℕ, _^_, _≤_, _<_}
 use lib.ListN.{length, drop}
 use Rattle.cbor.specs.Bytes.{Got}
 use Rattle.cbor.specs.Head.{headOf}
@@ -35,11 +35,6 @@ HereEach f Ok n s p l q = (length l ≡ n) × All Ok l × Got s p (each f l) q
 -- no n codes stand in s at p
 abbrev pub NowhereEach : {A : Type 0} → (A → List ℕ) → (A → Type 0) → ℕ → List ℕ → ℕ → Type 0
 NowhereEach {A} f Ok n s p = (l : List A) (r : List ℕ) → length l ≡ n → All Ok l → drop p s ≡ each f l ++ r → ⊥
-
--- the first n values of g, in order
-unfoldable pub tab : {A : Type 0} → ℕ → (ℕ → A) → List A
-tab zero g = []
-tab (suc n) g = tab n g ++ (g n ∷ [])
 
 -- "definite lengths": an array, its length and then its elements
 unfoldable pub arrayOf : {A : Type 0} → (A → List ℕ) → List A → List ℕ

@@ -1,15 +1,16 @@
--- What `begin` makes of a record. Assumes nothing.
-use mathlib.Core.Path.{_≡_, _∙_}
+-- What `begin_knowing` and `begin` make of a record. Assumes nothing.
+use mathlib.Core.Path.{_≡_, ap, _∙_}
 use mathlib.Core.List.{List}
 use Prim.Native.Nat.{ℕ, _+_, _*_, _≤_, _<_}
 use native.Mathlib.Omega.{arith}
 use lib.ListN.{length, getD, set, length-set}
+use Rattle.cells.specs.declared.Cell.{Cell}
 use Rattle.cells.specs.declared.Cell.the-variants.{Blank}
 use Rattle.cells.specs.declared.Change.the-variants.{Nothing}
 use Rattle.protocol.specs.Machine.{freshDevice}
 use Rattle.sheet.specs.Sheet.{sheet}
 use Rattle.words.specs.Layout.{CELL, CHANGE, ROUND, ITEM, LAST, TAKEN, CHANNEL, REQUEST, CONNECTION, COVERED, PENDING·LENGTH, WAITING·LENGTH, ITEMS·LENGTH, KNOWN, TRANSACTION, BUFFERED, RECEIVED, PENDING, WAITING, ITEMS, RECORD}
-use Rattle.words.specs.Place.{cellPlace, changePlace, Filled, Numbers}
+use Rattle.words.specs.Place.{cellPlace, changePlace, Filled, Numbers, Valid}
 use Rattle.words.proofs.Places.{Same, set-kept, set-new, cell-local, change-local}
 use Rattle.record.specs.Reading.{sheetAt, changesAt, roundAt, itemAt, bufferOf, receivedAt, channelOf, connectionOf, requestOf, linkOf, deviceOf}
 use Rattle.record.specs.Valid.{InUse, ValidRecord}
@@ -18,8 +19,8 @@ use Rattle.record.proofs.Same.{places-same, places-valid}
 use Rattle.record.proofs.Loops.{cleared}
 use Rattle.record.proofs.Meanings.{empty-queue}
 
--- The sheets are cleared one after the other, then the single numbers.
-module _ (cells number : ℕ) (few : cells ≤ 64) (xs y1 y2 y3 y4 : List ℕ) (K : Filled cellPlace xs y1 KNOWN cells (λ k. Blank)) (T : Filled changePlace y1 y2 TRANSACTION cells (λ k. Nothing)) (B : Filled changePlace y2 y3 BUFFERED cells (λ k. Nothing)) (N : Numbers y3 y4 LAST KNOWN (λ k. 0)) (len : length y4 ≡ RECORD) where
+-- The changes are cleared one after the other, then the single numbers.
+module _ (cells number : ℕ) (few : cells ≤ 64) (y1 y2 y3 y4 : List ℕ) (K : Valid cellPlace y1 KNOWN cells) (T : Filled changePlace y1 y2 TRANSACTION cells (λ k. Nothing)) (B : Filled changePlace y2 y3 BUFFERED cells (λ k. Nothing)) (N : Numbers y3 y4 LAST KNOWN (λ k. 0)) (len : length y4 ≡ RECORD) where
   y5 : List ℕ
   y5 = set y4 RECEIVED 0
 
@@ -60,8 +61,8 @@ module _ (cells number : ℕ) (few : cells ≤ 64) (xs y1 y2 y3 y4 : List ℕ) (
   buffered-same : Same y3 end BUFFERED (CHANGE * cells)
   buffered-same i p q = from-y3 i (omega arith) (λ e. omega arith)
 
-  known-is : sheetAt cells end KNOWN ≡ (λ c. Blank)
-  known-is = places-same cellPlace cell-local cells y1 end KNOWN known-same Blank ∙ cleared cells xs y1 KNOWN KNOWN cellPlace Blank K
+  known-is : sheetAt cells end KNOWN ≡ sheetAt cells y1 KNOWN
+  known-is = places-same cellPlace cell-local cells y1 end KNOWN known-same Blank
 
   transaction-is : changesAt cells end TRANSACTION ≡ (λ c. Nothing)
   transaction-is = places-same changePlace change-local cells y2 end TRANSACTION transaction-same Nothing ∙ cleared cells y1 y2 TRANSACTION TRANSACTION changePlace Nothing T
@@ -69,7 +70,7 @@ module _ (cells number : ℕ) (few : cells ≤ 64) (xs y1 y2 y3 y4 : List ℕ) (
   buffered-is : changesAt cells end BUFFERED ≡ (λ c. Nothing)
   buffered-is = places-same changePlace change-local cells y3 end BUFFERED buffered-same Nothing ∙ cleared cells y2 y3 BUFFERED BUFFERED changePlace Nothing B
 
-  says-is : (devices : ℕ) → deviceOf devices cells end ≡ freshDevice sheet (λ c. Blank) number
+  says-is : (devices : ℕ) → deviceOf devices cells end ≡ freshDevice sheet (sheetAt cells y1 KNOWN) number
   unfolding deviceOf linkOf receivedAt
   says-is devices = (λ i. record {
     known = known-is i;
@@ -105,7 +106,7 @@ module _ (cells number : ℕ) (few : cells ≤ 64) (xs y1 y2 y3 y4 : List ℕ) (
         few-pending = omega arith;
         few-waiting = omega arith;
         few-items = omega arith;
-        known = places-valid cellPlace cell-local cells y1 end KNOWN known-same (K .valid);
+        known = places-valid cellPlace cell-local cells y1 end KNOWN known-same K;
         transaction = places-valid changePlace change-local cells y2 end TRANSACTION transaction-same (T .valid);
         buffered = places-valid changePlace change-local cells y3 end BUFFERED buffered-same (B .valid);
         received = λ h. absurd (omega arith);
@@ -114,13 +115,25 @@ module _ (cells number : ℕ) (few : cells ≤ 64) (xs y1 y2 y3 y4 : List ℕ) (
         items = λ j h. absurd (omega arith);
       }
 
-  kept-is : (devices i : ℕ) → (InUse devices cells end i → ⊥) → getD end i 0 ≡ getD xs i 0
+  kept-is : (devices i : ℕ) → (InUse devices cells end i → ⊥) → getD end i 0 ≡ getD y1 i 0
   kept-is devices i n =
       from-y4 i (λ e. n (rw e InUse.buffer-kind)) (λ e. n (InUse.single (omega arith))) (λ e. n (InUse.single (omega arith)))
-      ∙ N .kept i (λ p q. n (InUse.single (omega arith))) ∙ B .kept i (λ p q. n (InUse.buffered p q)) ∙ T .kept i (λ p q. n (InUse.transaction p q)) ∙ K .kept i (λ p q. n (InUse.known p q))
+      ∙ N .kept i (λ p q. n (InUse.single (omega arith))) ∙ B .kept i (λ p q. n (InUse.buffered p q)) ∙ T .kept i (λ p q. n (InUse.transaction p q))
 
-  pub begun : Begun cells number xs (set (set (set y4 RECEIVED 0) LAST number) TAKEN number)
+  pub begun : Begun cells (sheetAt cells y1 KNOWN) number y1 (set (set (set y4 RECEIVED 0) LAST number) TAKEN number)
   begun = unfold end y6 y5 in did
     where
-      did : Begun cells number xs end
+      did : Begun cells (sheetAt cells y1 KNOWN) number y1 end
       did = record { says = says-is; taken = taken-is; valid = valid-is; kept = kept-is }
+
+-- Where the known sheet is stored first, the record knows it.
+pub begun-known : (cells number : ℕ) (xs ys zs : List ℕ) (f known : ℕ → Cell) → Filled cellPlace xs ys KNOWN cells f → sheetAt cells ys KNOWN ≡ known → Begun cells (sheetAt cells ys KNOWN) number ys zs → Begun cells known number xs zs
+begun-known cells number xs ys zs f known K e B = record {
+  says = λ devices. B .says devices ∙ ap (λ (s : ℕ → Cell). freshDevice sheet s number) e;
+  taken = B .taken;
+  valid = B .valid;
+  kept = λ devices i n. B .kept devices i n ∙ K .kept i (λ p q. n (InUse.known p q));
+}
+
+pub begun-blank : (cells number : ℕ) (xs ys zs : List ℕ) → Filled cellPlace xs ys KNOWN cells (λ k. Blank) → Begun cells (sheetAt cells ys KNOWN) number ys zs → Begun cells (λ c. Blank) number xs zs
+begun-blank cells number xs ys zs K B = begun-known cells number xs ys zs (λ k. Blank) (λ c. Blank) K (cleared cells xs ys KNOWN KNOWN cellPlace Blank K) B

@@ -72,7 +72,7 @@ module _ (xs ys : List ℕ) (X : ValidTable xs) (Y : ValidTable ys) (e : reading
       rw q (sym (record-word xs d k s) ∙ record-words (getD xs DEVICES 0) (getD xs CELLS 0) (recordAt xs d) (recordAt ys d) (X .records d h) (record-valid d h) (taken-eq d h) (device-eq d h) k u ∙ record-word ys d k s)
 
 -- Words that became the same table are the same words.
-became-once : (xs ys zs : List ℕ) (t : Table sheet) → Became xs ys t → Became xs zs t → ys ≡ zs
+pub became-once : (xs ys zs : List ℕ) (t : Table sheet) → Became xs ys t → Became xs zs t → ys ≡ zs
 became-once xs ys zs t A B = ext-getD 0 ys zs (A .size ∙ sym (B .size)) (λ i h. stable (ℕ-discrete (getD ys i 0) (getD zs i 0)) (λ n. n (unused i n)))
   where
     says : reading ys ≡ reading zs
@@ -84,11 +84,11 @@ became-once xs ys zs t A B = ext-getD 0 ys zs (A .size ∙ sym (B .size)) (λ i 
         ∙ sym (B .kept i (λ u. n (sym (table-words zs ys (B .valid) (A .valid) (sym says) i u))))
 
 -- Two refusals of the same number.
-refused-once : (r : Refusal) (xs ys zs : List ℕ) (a b : Answer) → RefusedWith r xs a ys → RefusedWith r xs b zs → (a ≡ b) × (ys ≡ zs)
+pub refused-once : (r : Refusal) (xs ys zs : List ℕ) (a b : Answer) → RefusedWith r xs a ys → RefusedWith r xs b zs → (a ≡ b) × (ys ≡ zs)
 refused-once r xs ys zs a b A B = (meaning-one a b (A .number ∙ sym (B .number)), A .untouched ∙ sym (B .untouched))
 
 -- What holds in either case holds, where it is an equation of answers and of words.
-either-way : (P : Type 0) (a b : Answer) (ys zs : List ℕ) → (P → (a ≡ b) × (ys ≡ zs)) → ((P → ⊥) → (a ≡ b) × (ys ≡ zs)) → (a ≡ b) × (ys ≡ zs)
+pub either-way : (P : Type 0) (a b : Answer) (ys zs : List ℕ) → (P → (a ≡ b) × (ys ≡ zs)) → ((P → ⊥) → (a ≡ b) × (ys ≡ zs)) → (a ≡ b) × (ys ≡ zs)
 either-way P a b ys zs f g = (
   stable (same-answer a b) (λ n. n (g (λ p. n (f p .0)) .0)),
   stable (List-discrete ℕ-discrete ys zs) (λ n. n (g (λ p. n (f p .1)) .1)),

@@ -3,6 +3,7 @@ use mathlib.Core.Path.{_≡_}
 use mathlib.Core.List.{List}
 use Prim.Native.Nat.{ℕ, _*_, _≤_, _<_}
 use lib.ListN.{length, getD}
+use Rattle.cells.specs.declared.Cell.{Cell}
 use Rattle.protocol.specs.declared.Refusal.{Refusal}
 use Rattle.protocol.specs.declared.Refusal.the-variants.{NoTable, OutsideAllowed}
 use Rattle.protocol.specs.Machine.{Table, Result, fresh, done, refused}
@@ -44,6 +45,6 @@ pub record Each (Q : ℕ → List ℕ → List ℕ → Type 0) (xs ys : List ℕ
   pub each : (d : ℕ) → d < n → Q d (recordAt xs d) (recordAt ys d)
   pub kept : Kept xs ys RECORDS (RECORD * n)
 
--- The records of n devices begun, each at number 0.
-abbrev pub Begins : (cells : ℕ) → List ℕ → List ℕ → ℕ → Type 0
-Begins cells = Each (λ d. Begun cells 0)
+-- The records of n devices begun, each knowing a sheet, at its number.
+abbrev pub Begins : (cells : ℕ) → (ℕ → Cell) → (ℕ → ℕ) → List ℕ → List ℕ → ℕ → Type 0
+Begins cells known numbers = Each (λ d. Begun cells known (numbers d))

@@ -122,6 +122,10 @@ module _ (P : Place) (L : Local P) (xs : List ℕ) (o : ℕ) (f : ℕ → P .Hol
   aside ys i n from w k F h l A j p q =
       F .kept j (λ a b. A j a (omega (arith, mul-le-mul-left (P .width) h, b)) (omega (arith, p)) (omega (arith, place-below w k n l, q)))
 
+-- A run filled with values under another name.
+pub filled-as : (P : Place) (xs ys : List ℕ) (o n : ℕ) (f g : ℕ → P .Holds) → ((k : ℕ) → k < n → f k ≡ g k) → Filled P xs ys o n f → Filled P xs ys o n g
+filled-as P xs ys o n f g e F = record { is = λ k h. F .is k h ∙ e k h; valid = F .valid; kept = F .kept }
+
 -- Numbers that a loop stores.
 pub numbers-none : (xs : List ℕ) (o : ℕ) (f : ℕ → ℕ) → Numbers xs xs o 0 f
 numbers-none xs o f = record { is = λ k h. absurd (omega arith); kept = λ i out. refl }

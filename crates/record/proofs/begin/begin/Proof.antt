@@ -1,8 +1,6 @@
--- `record::begin::begin` meets its contract: what it makes of the record is the law's.
+-- `record::begin::begin` meets its contract: the blank sheet is stored first.
 -- Assumes nothing.
-use native.Mathlib.Omega.{arith}
-use lib.ListN.{length-set}
-use Rattle.record.proofs.Begins.{begun}
+use Rattle.record.proofs.Begins.{begun-blank}
 use native.Mathlib.Omega.{arith}
 use borrow.Author.Needs.{needs}
 use Rattle.record.proofs.begin.begin.Statement.{statement}
@@ -11,40 +9,14 @@ use Rattle.record.proofs.begin.begin.Tie as tie
 clear-cells-requires : tie.Need-clear-cells-requires
 clear-cells-requires c κs = search needs
 
-clear-changes-requires : tie.Need-clear-changes-requires
-clear-changes-requires c κs = search needs
-
-clear-changes-requires-2 : tie.Need-clear-changes-requires-2
-clear-changes-requires-2 c κs = search needs
-
-clear-numbers-requires : tie.Need-clear-numbers-requires
-clear-numbers-requires c κs = search needs
-
-slice-write-r : tie.Need-slice-write-r
-slice-write-r c = search needs
-
-slice-write-r-2 : tie.Need-slice-write-r-2
-slice-write-r-2 c = simp length-set (omega arith)
-
-slice-write-r-3 : tie.Need-slice-write-r-3
-slice-write-r-3 c = simp length-set (omega arith)
+begin-knowing-requires : tie.Need-begin-knowing-requires
+begin-knowing-requires c κs = (omega arith, omega arith, c .before .before .before .clear-cells .ensures .valid)
 
 same-length : tie.Need-same-length
-same-length c = simp length-set (omega arith)
+same-length c = search needs
 
 returns : tie.Need-returns
-returns c = begun _ _ (c .before .before .before .before .before .before .before .before .before .before .before .before .before .before .before .before .before .pre .1) _ _ _ _ _ (c .before .before .before .before .before .before .before .before .before .before .before .before .before .before .clear-cells .ensures) (c .before .before .before .before .before .before .before .before .before .before .clear-changes .ensures) (c .before .before .before .before .before .before .clear-changes2 .ensures) (c .before .before .clear-numbers .ensures) (omega arith)
+returns c = begun-blank _ _ _ _ _ (c .before .before .before .before .before .before .clear-cells .ensures) (c .before .before .begin-knowing .ensures)
 
 pub begin-spec : {M : Type 1} → statement M
-begin-spec =
-    tie.close
-    (tie.spec
-    clear-cells-requires
-    clear-changes-requires
-    clear-changes-requires-2
-    clear-numbers-requires
-    slice-write-r
-    slice-write-r-2
-    slice-write-r-3
-    same-length
-    returns)
+begin-spec = tie.close (tie.spec clear-cells-requires begin-knowing-requires same-length returns)

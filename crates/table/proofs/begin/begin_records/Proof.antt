@@ -5,6 +5,7 @@ use Prim.Native.Nat.{_≤_, _-_}
 use lib.ListN.{length}
 use Rattle.table.specs.Promise.{Begins}
 use Rattle.table.proofs.Part.{part-is, part-length, replaced}
+use Rattle.cells.specs.declared.Cell.the-variants.{Blank}
 use Rattle.record.specs.Begun.{Begun}
 use Rattle.table.proofs.Each.{each-none, each-more}
 use native.Mathlib.Omega.{arith}
@@ -12,13 +13,13 @@ use Rattle.table.proofs.begin.begin_records.Statement.{statement}
 use Rattle.table.proofs.begin.begin_records.Tie as tie
 
 abbrev Inv-loop : tie.InvT-loop
-Inv-loop t₀ n cells d₀ t d = (d ≤ n) × (length t ≡ length t₀) × Begins cells t₀ t d
+Inv-loop t₀ n cells d₀ t d = (d ≤ n) × (length t ≡ length t₀) × Begins cells (λ c. Blank) (λ e. 0) t₀ t d
 
 abbrev μ-loop : tie.MeasureT-loop
 μ-loop t₀ n cells d₀ t d = n - d
 
 loop-holds : tie.Need-loop-holds Inv-loop μ-loop
-loop-holds c = (omega arith, refl, each-none (λ d. Begun _ 0) _)
+loop-holds c = (omega arith, refl, each-none (λ d. Begun _ (λ c. Blank) 0) _)
 
 mul-a : tie.Need-mul-a Inv-loop μ-loop
 mul-a c = omega arith
@@ -56,7 +57,7 @@ loop-again c =
     let w = c .before .before .begin in
     let size = w .kept .0 ∙ part-length (l .t) (l .d) (omega arith) in
     let R = replaced (l .t) _ (l .d) (omega arith) size in
-    (omega arith, R .same-length ∙ l .inv .1, each-more (λ d. Begun _ 0) _ (l .t) _ _ (l .d) (l .inv .1) (omega arith) (l .inv .2) R (rw (part-is _ _) at (w .ensures)))
+    (omega arith, R .same-length ∙ l .inv .1, each-more (λ d. Begun _ (λ c. Blank) 0) _ (l .t) _ _ (l .d) (l .inv .1) (omega arith) (l .inv .2) R (rw (part-is _ _) at (w .ensures)))
 
 same-length : tie.Need-same-length Inv-loop μ-loop
 same-length c = c .before .loop .inv .1

@@ -1,8 +1,9 @@
 -- `table::begin::start` meets its contract: it ends in one of three ways.
 -- Assumes nothing.
-use mathlib.Core.Path.{_∙_}
+use mathlib.Core.Path.{refl, _∙_}
 use lib.ListN.{length-set}
 use borrow.Author.Tests.{not-true, not-false}
+use Rattle.sheet.specs.Sheet.{started}
 use Rattle.table.proofs.Starts.{start-outside, start-short, start-done, started-is}
 use native.Mathlib.Omega.{arith}
 use borrow.Author.Needs.{needs}
@@ -51,7 +52,7 @@ same-length c =
 
 returns-3 : tie.Need-returns-3
 returns-3 c = let z = c .before .before .before .before .before .before .before .before .before .before .are-sizes .ensures .sure (not-false _ (c .before .before .before .before .before .before .before .before .before .if1 .left)) in
-    start-done _ _ _ _ z (c .before .before .before .before .before .before .before .before .if2 .left) (started-is _ _ _ _ _ z (c .before .before .before .before .before .before .before .before .if2 .left) (c .before .before .before .before .before .before .begin-records .kept .0) (c .before .before .clear-cells .kept .0 ∙ c .before .before .before .before .before .before .begin-records .kept .0) (c .before .before .before .before .before .before .begin-records .ensures) (c .before .before .clear-cells .ensures))
+    start-done _ _ _ _ z (c .before .before .before .before .before .before .before .before .if2 .left) (started-is (started _ _) _ _ _ (λ k h. refl) (λ k h. refl) z (c .before .before .before .before .before .before .before .before .if2 .left) (c .before .before .before .before .before .before .begin-records .kept .0) (c .before .before .clear-cells .kept .0 ∙ c .before .before .before .before .before .before .begin-records .kept .0) (c .before .before .before .before .before .before .begin-records .ensures) (c .before .before .clear-cells .ensures))
 
 pub start-spec : {M : Type 1} → statement M
 start-spec =

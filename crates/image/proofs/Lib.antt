@@ -1,0 +1,12 @@
+-- Laws that belong to no one function.
+pub mod Counts
+pub mod Meaning
+pub mod Queued
+pub mod Runs
+pub mod Whole
+pub mod Parts
+pub mod Longest
+pub mod Desk
+pub mod Stores
+pub mod Opens
+pub mod Theorems

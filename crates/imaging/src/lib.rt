@@ -1,0 +1,2 @@
+// A stored image as text, for people and for tests: a line for each cell and for each device's number.
+pub mod show;
