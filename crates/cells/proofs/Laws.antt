@@ -56,9 +56,6 @@ wrap-zero a f = ap (toZ w64) (less (wordOf a) (word-lt a)) ∙ toZ-word a f
     less : (n : ℕ) → n < 2 ^ 64 → (n + 0 % 2 ^ 64) % 2 ^ 64 ≡ n
     less n h = omega arith
 
-pub zero-wrap : (a : ℤ) → SFits w64 a → wrapAdd (pos 0) a ≡ a
-zero-wrap a f = wrap-comm (pos 0) a ∙ wrap-zero a f
-
 -- Adding twice is adding the sum.
 pub added-twice : (c : Cell) (m n : ℤ) → added (added c m) n ≡ added c (wrapAdd m n)
 added-twice Blank m n = refl

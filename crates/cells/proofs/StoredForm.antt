@@ -21,7 +21,6 @@ use Rattle.cells.specs.declared.Change.{Change}
 use Rattle.cells.specs.declared.Change.the-variants.{Nothing, Set, Add}
 use Rattle.cells.proofs.Words.{word-lt, word-toZ, toZ-word}
 use Rattle.cells.proofs.Finite.{word-finite, float-word-float, word-float-word, float-word-lt, float-word-finite}
-use Rattle.cells.proofs.Laws.{wrap-fits}
 
 -- Tests.
 pub both : {a b : Bool} → a ≡ true → b ≡ true → (a && b) ≡ true
@@ -92,33 +91,16 @@ words-change-fits (suc (suc (suc zero))) p e = words-cell-fits 2 p e
 words-change-fits (suc (suc (suc (suc zero)))) p e = (toZ-fits w64 p (record { fits = word-ok p e }), refl)
 words-change-fits (suc (suc (suc (suc (suc k))))) p e = absurd (false≢true e)
 
--- What the operations give fits, and is finite.
-pub added-fits : (c : Cell) (n : ℤ) → CellFits c → SFits w64 n → CellFits (added c n)
-added-fits Blank n f g = g
-added-fits (Count m) n f g = wrap-fits m n
-added-fits (Measure x) n f g = f
-
+-- What the operations give is finite.
 pub added-finite : (c : Cell) (n : ℤ) → cellFinite c ≡ true → cellFinite (added c n) ≡ true
 added-finite Blank n e = refl
 added-finite (Count m) n e = refl
 added-finite (Measure x) n e = e
 
-pub applied-fits : (c : Cell) (d : Change) → CellFits c → ChangeFits d → CellFits (applied c d)
-applied-fits c Nothing f g = f
-applied-fits c (Set v) f g = g
-applied-fits c (Add n) f g = added-fits c n f g
-
 pub applied-finite : (c : Cell) (d : Change) → cellFinite c ≡ true → changeFinite d ≡ true → cellFinite (applied c d) ≡ true
 applied-finite c Nothing f g = f
 applied-finite c (Set v) f g = g
 applied-finite c (Add n) f g = added-finite c n f
-
-pub joined-fits : (a b : Change) → ChangeFits a → ChangeFits b → ChangeFits (joined a b)
-joined-fits a Nothing f g = f
-joined-fits a (Set v) f g = g
-joined-fits Nothing (Add n) f g = g
-joined-fits (Set v) (Add n) f g = added-fits v n f g
-joined-fits (Add m) (Add n) f g = wrap-fits m n
 
 pub joined-finite : (a b : Change) → changeFinite a ≡ true → changeFinite b ≡ true → changeFinite (joined a b) ≡ true
 joined-finite a Nothing f g = f

@@ -14,12 +14,16 @@ use Rattle.protocol.specs.Machine.{Device, run, fresh, push, send, ask, accept,
 use Rattle.protocol.specs.Plays.{_gives_, Plays}
 use Rattle.protocol.specs.Plays.{Line as Play}
 use Rattle.sheet.specs.Sheet.{sheet, started}
+use Rattle.image.specs.Image.{imageOf, Allowed, NotImage}
 
 -- A line: a cell, a number added and the cell then; two changes and what they join to; steps of a table of so many devices and cells with
--- their answers, what then is in the push buffer of device 0, and the numbers of its pending rounds.
+-- their answers, what then is in the push buffer of device 0, and the numbers of its pending rounds; allowed cells and numbers with the bytes
+-- of their image; bytes that are no image, which refusal 12 answers.
 pub data Line : Type 0 where
   adding : Cell → ℤ → Cell → Line
   joining : Change → Change → Change → Line
+  stored : List Cell → List ℕ → List ℕ → Line
+  noImage : List ℕ → Line
   running : (devices cells : ℕ) → List (Play sheet) → (covered : ℕ) → (pending : List ℕ) → Line
 
 abbrev pub after : (devices cells : ℕ) → List (Play sheet) → Device sheet
@@ -28,6 +32,8 @@ after devices cells plays = run sheet (map (λ p. p .asks) plays) (fresh sheet (
 abbrev pub Holds : Line → Type 0
 Holds (adding c n r) = added c n ≡ r
 Holds (joining a b r) = joined a b ≡ r
+Holds (stored cells numbers bytes) = Allowed cells numbers × (imageOf cells numbers ≡ bytes)
+Holds (noImage bytes) = NotImage bytes
 Holds (running devices cells plays covered pending) = Plays sheet (fresh sheet (started devices cells)) plays × (after devices cells plays .covered ≡ covered) × (map (λ r. r .number) (after devices cells plays .pending) ≡ pending)
 
 abbrev pub Each : List Line → Type 0
@@ -37,6 +43,13 @@ Each (x ∷ xs) = Holds x × Each xs
 -- "measured 1.5", by its bits.
 abbrev pub oneAndHalf : Cell
 oneAndHalf = Measure (ofBits binary64 0x3ff8_0000_0000_0000)
+
+-- The bytes of the two lines on images, with the shortest head of −1 and with a longer one.
+abbrev pub shortest : List ℕ
+shortest = 0x82 ∷ 0x83 ∷ 0xF6 ∷ 0x20 ∷ 0xFB ∷ 0x3F ∷ 0xF8 ∷ 0x00 ∷ 0x00 ∷ 0x00 ∷ 0x00 ∷ 0x00 ∷ 0x00 ∷ 0x81 ∷ 0x00 ∷ []
+
+abbrev pub longer : List ℕ
+longer = 0x82 ∷ 0x83 ∷ 0xF6 ∷ 0x38 ∷ 0x00 ∷ 0xFB ∷ 0x3F ∷ 0xF8 ∷ 0x00 ∷ 0x00 ∷ 0x00 ∷ 0x00 ∷ 0x00 ∷ 0x00 ∷ 0x81 ∷ 0x00 ∷ []
 
 -- A device's channel, established.
 abbrev pub linked : List (Play sheet)
@@ -57,6 +70,8 @@ sends (suc n) = push 0 gives done ∷ send 0 gives done ∷ sends n
 -- "64 cells: 63 read, 64 refused 4"
 -- "eighth pending round sent, next send refused 8, buffer kept"
 -- "pushes 1 and 2 offline: one round numbered 2"
+-- "blank, count −1, measured 1.5, one device at 0: 82 83 F6 20 FB 3F F8 00 00 00 00 00 00 81 00"
+-- "the same with 38 00 for 20: refused 12"
 abbrev pub desk : List Line
 desk =
     adding Blank (pos 0) (Count (pos 0))
@@ -68,4 +83,6 @@ desk =
     ∷ running 1 64 (read 0 63 gives value Blank ∷ read 0 64 gives refused NoCell ∷ []) 0 []
     ∷ running 1 1 (linked ++ sends 8 ++ (push 0 gives done ∷ send 0 gives refused PendingFull ∷ [])) 1 (1 ∷ 2 ∷ 3 ∷ 4 ∷ 5 ∷ 6 ∷ 7 ∷ 8 ∷ [])
     ∷ running 1 1 ((push 0 gives done ∷ push 0 gives done ∷ []) ++ linked ++ (send 0 gives done ∷ [])) 0 (2 ∷ [])
+    ∷ stored (Blank ∷ Count (negsuc 0) ∷ oneAndHalf ∷ []) (0 ∷ []) shortest
+    ∷ noImage longer
     ∷ []

@@ -6,7 +6,6 @@ pub mod Runs
 pub mod Whole
 pub mod Parts
 pub mod Longest
-pub mod Desk
 pub mod Stores
 pub mod Opens
 pub mod Theorems

@@ -3,8 +3,7 @@ use mathlib.Core.List.{List}
 use mathlib.Core.Path.{_∙_, _≡_, ap, refl}
 use Prim.Native.Nat.{_*_, _<_, _≤_, suc, zero, ℕ}
 use native.Mathlib.Omega.{arith}
-use lib.Ieee.{binary64}
-use lib.Ieee.Bits.{ofBits-fits}
+use lib.Ieee.{binary64, ofBits}
 use lib.ListN.{length, length-append}
 use Rattle.cbor.proofs.Codes.{each-bound, each-snoc}
 use Rattle.cbor.proofs.Heads.{info-cases, info-self, length-head, width-le, width-zero}
@@ -14,14 +13,14 @@ use Rattle.cbor.specs.Bytes.{be}
 use Rattle.cbor.specs.Code.{All, arrayOf, each}
 use Rattle.cbor.specs.Head.{headOf, infoOf, widthOf}
 use Rattle.cbor.specs.Token.{argumentOf, tokenOf}
-use Rattle.cells.proofs.Finite.{word-finite}
 use Rattle.cells.specs.Finite.{finiteWord}
 use Rattle.cells.specs.declared.Cell.{Cell}
+use Rattle.cells.specs.declared.Cell.the-variants.{Measure}
 use Rattle.record.specs.Reading.{queue}
 use Rattle.record.proofs.Queues.{queue-length}
-use Rattle.image.specs.Desk.{oneAndHalf}
 use Rattle.image.specs.Image.{Allowed, NumberAllowed, imageOf}
 use Rattle.image.specs.Item.{CellAllowed, cellBytes, cellToken}
+use Rattle.image.proofs.Meaning.{measure-allowed}
 use Rattle.image.proofs.Queued.{all-queue, length-array}
 use Rattle.image.proofs.Parts.{image-length}
 
@@ -67,17 +66,20 @@ length-same f a (suc n) =
 all-same : {A : Type 0} (Ok : A → Type 0) (a : A) (n : ℕ) → Ok a → All Ok (queue n (λ _. a))
 all-same Ok a n h = all-queue Ok n (λ _. a) (λ _ _. h)
 
-pub half-allowed : CellAllowed oneAndHalf
+abbrev half : Cell
+half = Measure (ofBits binary64 0x3ff8_0000_0000_0000)
+
+half-allowed : CellAllowed half
 unfolding finiteWord
-half-allowed = record { fits = ofBits-fits binary64 0x3ff8_0000_0000_0000; finite = word-finite 0x3ff8_0000_0000_0000 }
+half-allowed = measure-allowed 0x3ff8_0000_0000_0000 refl
 
 halves : ℕ → Cell
-halves _ = oneAndHalf
+halves _ = half
 
 millions : ℕ → ℕ
 millions _ = 1000000
 
-half-length : length (cellBytes oneAndHalf) ≡ 9
+half-length : length (cellBytes half) ≡ 9
 unfolding tokenOf cellToken be
 half-length = refl
 
@@ -91,7 +93,7 @@ heads-length = (refl, refl, refl)
 
 halves-length : length (each cellBytes (queue 64 halves)) ≡ 576
 unfolding halves
-halves-length = omega (arith, length-same cellBytes oneAndHalf 64, half-length)
+halves-length = omega (arith, length-same cellBytes half 64, half-length)
 
 millions-length : length (each (headOf 0) (queue 8 millions)) ≡ 40
 unfolding millions
@@ -101,7 +103,7 @@ most-allowed : Allowed (queue 64 halves) (queue 8 millions)
 unfolding halves millions
 most-allowed =
     record {
-      sheet = record { count = rw (queue-length 64 halves) (omega arith, omega arith, omega arith); every = all-same CellAllowed oneAndHalf 64 half-allowed };
+      sheet = record { count = rw (queue-length 64 halves) (omega arith, omega arith, omega arith); every = all-same CellAllowed half 64 half-allowed };
       devices = record { count = rw (queue-length 8 millions) (omega arith, omega arith, omega arith); every = all-same NumberAllowed 1000000 8 (omega arith, omega arith, omega arith) };
     }
 

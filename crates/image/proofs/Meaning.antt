@@ -82,3 +82,7 @@ cell-free =
 
 pub number-free : Free (headOf 0) NumberAllowed
 number-free a b r q oa ob e = unsigned-free a b r q (oa .2) (ob .2) e
+
+-- A finite measured number is allowed, by its word.
+pub measure-allowed : (w : ℕ) → finiteWord w ≡ true → CellAllowed (Measure (ofBits binary64 w))
+measure-allowed w e = record { fits = ofBits-fits binary64 w; finite = word-finite w ∙ e }

@@ -5,4 +5,3 @@ pub mod Words
 pub mod Read
 pub mod Promise
 pub mod Claims
-pub mod Desk

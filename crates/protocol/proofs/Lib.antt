@@ -21,4 +21,3 @@ pub mod Moved
 pub mod Ranges
 pub mod Fits
 pub mod Theorem
-pub mod ByIndex

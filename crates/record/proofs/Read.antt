@@ -62,9 +62,6 @@ module _ (devices cells : ℕ) (xs ys : List ℕ) (S : (i : ℕ) → InUse devic
       link = same-link i;
     })
 
-    pub same-taken : getD ys TAKEN 0 ≡ getD xs TAKEN 0
-    same-taken = single TAKEN (omega arith)
-
     pub same-valid : length ys ≡ RECORD → ValidRecord devices cells ys
     same-valid size =
         let p = single PENDING·LENGTH (omega arith) in

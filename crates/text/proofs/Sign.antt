@@ -8,11 +8,11 @@ use borrow.Author.Tests.{le-ltb, ltb-true}
 use lib.ListN.{length}
 use lib.Dec.{T, ltb}
 use lib.IntN.{ℤ, pos, negsuc, natAbs, _-ℤ_}
-use native.Mathlib.Nat.{zero-add}
 use lib.Signed.{ltZ, nonNeg}
 use mir.Syntax.{w64}
 use mir.Val.{Fits, SFits, toZ, ofZ}
 use mir.Facts.{toZ-pos, toZ-ofZ}
+use Rattle.cells.proofs.Mirror.{mirror-neg}
 use Rattle.text.specs.Text.{decimalText, isNegative, signedText}
 use Rattle.text.proofs.DecimalText.{decimal-length}
 
@@ -20,20 +20,6 @@ use Rattle.text.proofs.DecimalText.{decimal-length}
 pub read-pos : (k : ℕ) → k < 2 ^ 63 → toZ w64 k ≡ pos k
 read-pos k h = toZ-pos w64 h
 
-minus-pos : (k : ℕ) → negsuc 0 -ℤ pos k ≡ negsuc k
-minus-pos zero = refl
-minus-pos (suc k) = rw zero-add
-
-pub below-zero : (k : ℕ) → k < 2 ^ 63 → negsuc 0 -ℤ toZ w64 k ≡ negsuc k
-below-zero k h = ap (λ (z : ℤ). negsuc 0 -ℤ z) (read-pos k h) ∙ minus-pos k
-
-pub below-fits : (k : ℕ) → k < 2 ^ 63 → SFits w64 (negsuc 0 -ℤ toZ w64 k)
-below-fits k h = subst (SFits w64) (sym (below-zero k h)) (record { sfits = h })
-
-pub below-read : (k : ℕ) → k < 2 ^ 63 → toZ w64 (ofZ w64 (negsuc 0 -ℤ toZ w64 k)) ≡ negsuc k
-below-read k h = toZ-ofZ (below-fits k h) ∙ below-zero k h
-
--- signed numbers as the machine has them
 pub back : (z : ℤ) → SFits w64 z → toZ w64 (ofZ w64 z) ≡ z
 back z h = toZ-ofZ h
 
@@ -50,7 +36,7 @@ abbrev flip : ℤ → ℤ
 flip z = negsuc 0 -ℤ toZ w64 (ofZ w64 z)
 
 flip-is : (k : ℕ) → SFits w64 (negsuc k) → flip (negsuc k) ≡ pos k
-flip-is k h = ap (λ (x : ℤ). negsuc 0 -ℤ x) (back (negsuc k) h) ∙ rw (le-ltb (suc k) 1 (omega arith)) (ap pos (omega arith))
+flip-is k h = ap (λ (x : ℤ). negsuc 0 -ℤ x) (back (negsuc k) h) ∙ mirror-neg k
 
 never-below : (n : ℕ) → SFits w64 (pos n) → ltZ (toZ w64 (ofZ w64 (pos n))) (pos 0) ≡ true → ⊥
 never-below n h t =

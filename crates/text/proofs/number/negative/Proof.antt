@@ -1,4 +1,4 @@
-use Rattle.text.proofs.Sign.{below-fits, below-read}
+use Rattle.cells.proofs.Mirror.{mirror-fits, mirror-read}
 use Rattle.text.proofs.Reading.{negative-is, negative-not, negative-zero, negative-none}
 use Prim.Native.Nat.{_-_}
 use Rattle.text.specs.declared.number.Signed.the-variants.{Is as SIs}
@@ -25,13 +25,13 @@ cast-t6 : tie.Need-cast-t6
 cast-t6 c = search needs
 
 sub-t7 : tie.Need-sub-t7
-sub-t7 c = below-fits (c .before .before .before .w .given .0 .0 - 1) (omega arith)
+sub-t7 c = mirror-fits (c .before .before .before .w .given .0 .0 - 1) (omega arith)
 
 enum-told : tie.Need-enum-told
 enum-told c = search needs
 
 returns-3 : tie.Need-returns-3
-returns-3 c = ap SIs (below-read _ (omega arith)) ∙ sym (ap negativeOf (c .before .before .before .w .given .1) ∙ negative-is _ (c .before .if1 .left) (omega arith))
+returns-3 c = ap SIs (mirror-read _ (omega arith)) ∙ sym (ap negativeOf (c .before .before .before .w .given .1) ∙ negative-is _ (c .before .if1 .left) (omega arith))
 
 returns-4 : tie.Need-returns-4
 returns-4 c = sym (ap negativeOf (c .enum-told .given .1) ∙ negative-none)
