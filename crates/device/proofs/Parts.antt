@@ -66,7 +66,7 @@ module _ (devices cells : ℕ) (xs : List ℕ) where
   }
 
   module _ (x : Device sheet) (P : Parts devices cells xs x) where
-    parts-say : deviceOf devices cells xs ≡ x
+    pub parts-say : deviceOf devices cells xs ≡ x
     unfolding deviceOf linkOf
     parts-say = (λ i. record {
       known = P .known .is i;
@@ -79,7 +79,7 @@ module _ (devices cells : ℕ) (xs : List ℕ) where
       link = record { channel = P .words .channel i; request = P .words .request i; connection = P .words .connection i; waiting = P .waiting .is i; items = P .items .is i };
     })
 
-    parts-valid : ValidRecord devices cells xs
+    pub parts-valid : ValidRecord devices cells xs
     parts-valid = record {
       size = P .size;
       channel = P .words .channel-fits;

@@ -10,7 +10,7 @@ mod push;
 mod read;
 mod receive;
 mod renew;
-mod round;
+pub mod round;
 mod send;
 pub mod step;
 mod update;

@@ -24,7 +24,7 @@ use Rattle.device.specs.Parts.{Entry, itemEntry, PutEntry, QueueIs, Requeued}
 use Rattle.device.proofs.Entries.{LocalEntry, item-local, queue-added}
 use Rattle.device.proofs.Items.{is-prefix, is-segment, no-prefix}
 use Rattle.device.proofs.Joins.{prefix-made, segment-made, given-word, later-word, later-positive}
-use Rattle.server.specs.Deliver.{Storable, JoinableTo, Deliverable}
+use Rattle.server.specs.Deliver.{Storable, Stackable, JoinableTo, Deliverable}
 
 -- Numbers are stored, and then places: y2 has both, and the other words of x0.
 module _ (devices cells : ℕ) (x0 y1 y2 : List ℕ) (to : ℕ) (few : devices ≤ 8) (f : ℕ → ℕ) (N : Numbers x0 y1 (to + ITEM·NUMBERS) devices f) (P : Place) (g : ℕ → P .Holds) (F : Filled P y1 y2 (to + ITEM·PLACES) cells g) where
@@ -162,25 +162,31 @@ module _ (E : Entry) (L : LocalEntry E) (xs ys : List ℕ) (l o n : ℕ) (v : E 
         kept = λ i p q. W .kept i (q n (omega (arith, s)));
       }
 
+-- An item is put behind those that wait.
+pub put-behind-last : (devices cells : ℕ) (xs ss ys : List ℕ) → Stackable devices cells xs ss → length ys ≡ length xs → PutEntry (itemEntry devices cells) xs ys (ITEMS + ITEM * getD xs ITEMS·LENGTH 0) (itemAt devices cells ss ITEM·KIND) → Requeued (itemEntry devices cells) xs (set ys ITEMS·LENGTH (getD xs ITEMS·LENGTH 0 + 1)) ITEMS·LENGTH ITEMS (itemsOf devices cells xs ++ (itemAt devices cells ss ITEM·KIND ∷ []))
+put-behind-last devices cells xs ss ys S len W =
+    let Q : QueueIs (itemEntry devices cells) xs ITEMS·LENGTH ITEMS (itemsOf devices cells xs) = record { is = refl; few = S .there .few; valid = S .there .items } in
+    queue-added (itemEntry devices cells) (item-local devices cells (S .ready .few-devices) (S .ready .few-cells)) xs ys ITEMS·LENGTH ITEMS (itemAt devices cells ss ITEM·KIND) (itemsOf devices cells xs) Q W (omega arith) (omega (arith, len, S .there .size)) (S .room)
+
 -- A segment is put on a connection.
 module _ (devices cells : ℕ) (xs ss : List ℕ) (D : Deliverable devices cells xs ss) where
   entries : LocalEntry (itemEntry devices cells)
   entries = item-local devices cells (D .ready .few-devices) (D .ready .few-cells)
 
-  pub behind-put : (ys : List ℕ) → length ys ≡ length xs → getD xs ITEMS·LENGTH 0 < QUEUE → PutEntry (itemEntry devices cells) xs ys (ITEMS + ITEM * getD xs ITEMS·LENGTH 0) (itemAt devices cells ss ITEM·KIND) → Requeued (itemEntry devices cells) xs (set ys ITEMS·LENGTH (getD xs ITEMS·LENGTH 0 + 1)) ITEMS·LENGTH ITEMS (enqueue (joinItem sheet) (itemsOf devices cells xs) (itemAt devices cells ss ITEM·KIND))
-  behind-put ys len h W =
-      let Q : QueueIs (itemEntry devices cells) xs ITEMS·LENGTH ITEMS (itemsOf devices cells xs) = record { is = refl; few = D .recorded .few-items; valid = D .recorded .items } in
-      rw (enqueued-behind (joinItem sheet) (getD xs ITEMS·LENGTH 0) (λ j. itemAt devices cells xs (ITEMS + ITEM * j)) (itemAt devices cells ss ITEM·KIND) h)
-      (queue-added (itemEntry devices cells) entries xs ys ITEMS·LENGTH ITEMS (itemAt devices cells ss ITEM·KIND) (itemsOf devices cells xs) Q W (omega arith) (omega (arith, len, D .recorded .size)) h)
+  pub stackable : getD xs ITEMS·LENGTH 0 < QUEUE → Stackable devices cells xs ss
+  stackable h = record { ready = D .ready; there = D .there; room = h }
+
+  pub last-behind : (ys : List ℕ) → getD xs ITEMS·LENGTH 0 < QUEUE → Requeued (itemEntry devices cells) xs ys ITEMS·LENGTH ITEMS (itemsOf devices cells xs ++ (itemAt devices cells ss ITEM·KIND ∷ [])) → Requeued (itemEntry devices cells) xs ys ITEMS·LENGTH ITEMS (enqueue (joinItem sheet) (itemsOf devices cells xs) (itemAt devices cells ss ITEM·KIND))
+  last-behind ys h Q = rw (enqueued-behind (joinItem sheet) (getD xs ITEMS·LENGTH 0) (λ j. itemAt devices cells xs (ITEMS + ITEM * j)) (itemAt devices cells ss ITEM·KIND) h) Q
 
   module _ (h : QUEUE ≤ getD xs ITEMS·LENGTH 0) where
     all-full : getD xs ITEMS·LENGTH 0 ≡ 8
-    all-full = omega (arith, D .recorded .few-items)
+    all-full = omega (arith, D .there .few)
 
     pub last-joinable : JoinableTo devices cells xs ss (ITEMS + ITEM * 7)
     last-joinable = record {
-      storable = record { ready = D .ready; fits = omega (arith, D .recorded .size) };
-      to-valid = D .recorded .items 7 (omega (arith, all-full));
+      storable = record { ready = D .ready; fits = omega (arith, D .there .size) };
+      to-valid = D .there .items 7 (omega (arith, all-full));
       is-segment = D .is-segment;
     }
 
@@ -189,4 +195,4 @@ module _ (devices cells : ℕ) (xs ss : List ℕ) (D : Deliverable devices cells
         let f : ℕ → Item sheet = λ j. itemAt devices cells xs (ITEMS + ITEM * j) in
         let e = ap (λ (n : ℕ). enqueue (joinItem sheet) (queue n f) (itemAt devices cells ss ITEM·KIND)) all-full ∙ enqueued-joined (joinItem sheet) 7 f (itemAt devices cells ss ITEM·KIND) (omega arith) in
         rw e
-        (last-renewed (itemEntry devices cells) entries xs ys ITEMS·LENGTH ITEMS 7 _ (λ j b. D .recorded .items j (omega (arith, all-full))) W (omega arith) all-full (omega arith))
+        (last-renewed (itemEntry devices cells) entries xs ys ITEMS·LENGTH ITEMS 7 _ (λ j b. D .there .items j (omega (arith, all-full))) W (omega arith) all-full (omega arith))

@@ -5,3 +5,7 @@ pub mod EndLaws
 pub mod Turns
 pub mod Delivers
 pub mod Crashes
+pub mod Links
+pub mod Accepts
+pub mod Goes
+pub mod Settles

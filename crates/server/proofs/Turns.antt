@@ -18,8 +18,9 @@ use Rattle.record.proofs.Same.{below-same, places-same, places-valid}
 use Rattle.device.specs.Did.{Did, deviceAfter}
 use Rattle.table.specs.Table.{recordAt, reading, InTable, ValidTable}
 use Rattle.table.specs.Promise.{Became, Each}
+use Rattle.table.proofs.Each.{each-ahead}
 use Rattle.table.proofs.Part.{record-word}
-use Rattle.server.specs.Turn.{Turned}
+use Rattle.server.specs.Turn.{Turned, Sound, AllSound}
 
 -- A step that is done turns its record.
 pub did-turned : (devices cells : ℕ) (f : Device sheet → Local sheet) (xs ys : List ℕ) (a : Answer) (y : Device sheet) → f (deviceOf devices cells xs) ≡ fine y → Did devices cells f xs a ys → Turned devices cells y (getD xs TAKEN 0) xs ys
@@ -81,3 +82,7 @@ module _ (xs ys : List ℕ) (X : ValidTable xs) (l : length ys ≡ length xs) (g
 
   pub all-turned : (t : Table sheet) → record { devices = getD xs DEVICES 0; cells = getD xs CELLS 0; sheet = reading xs .sheet; taken = below (getD xs DEVICES 0) h 0; device = below (getD xs DEVICES 0) g (freshDevice sheet (λ c. Blank) 0) } ≡ t → Became xs ys t
   all-turned t e = record { says = says-is ∙ e; valid = valid-is; kept = kept-is; size = l }
+
+-- A record that no turn has reached yet is as it was.
+pub ahead-sound : (Q : ℕ → List ℕ → List ℕ → Type 0) (xs ys : List ℕ) (devices cells d : ℕ) → AllSound xs devices cells → length ys ≡ length xs → d < devices → Each Q xs ys d → Sound devices cells (recordAt ys d)
+ahead-sound Q xs ys devices cells d A l h E = let n = A .long in rw (each-ahead Q xs ys d d l (omega arith) (omega arith) E) (A .records d h)

@@ -3,3 +3,5 @@ pub mod Ends
 pub mod Gather
 pub mod Prefix
 pub mod Deliver
+pub mod Accept
+pub mod Settle

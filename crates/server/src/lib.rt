@@ -1,6 +1,8 @@
 // The server and the link on the lent table.
+mod accept;
 pub mod calls;
 mod deliver;
 mod ends;
 pub mod gather;
 pub mod prefix;
+mod settle;

@@ -1,34 +1,22 @@
--- `server::deliver::deliver` meets its contract: with room behind the last, and otherwise joined to it.
+-- `server::deliver::deliver` meets its contract: behind the last, or joined to it.
 -- Assumes nothing.
 use native.Mathlib.Omega.{arith}
-use Rattle.server.proofs.Delivers.{behind-put, last-joinable, last-joined}
+use Rattle.server.proofs.Delivers.{stackable, last-behind, last-joinable, last-joined}
 use borrow.Author.Needs.{needs}
 use Rattle.server.proofs.deliver.deliver.Statement.{statement}
 use Rattle.server.proofs.deliver.deliver.Tie as tie
 
-slice-read-n : tie.Need-slice-read-n
-slice-read-n c = search needs
+slice-read-if1 : tie.Need-slice-read-if1
+slice-read-if1 c = search needs
 
-mul-put-item : tie.Need-mul-put-item
-mul-put-item c = search needs
-
-add-put-item : tie.Need-add-put-item
-add-put-item c = search needs
-
-put-item-requires : tie.Need-put-item-requires
-put-item-requires c κs = search needs
-
-add-r : tie.Need-add-r
-add-r c = search needs
-
-slice-write-r : tie.Need-slice-write-r
-slice-write-r c = search needs
+put-behind-requires : tie.Need-put-behind-requires
+put-behind-requires c κs = stackable _ _ _ _ (c .before .before .before .before .before .pre) (c .before .if1 .taken)
 
 same-length : tie.Need-same-length
 same-length c = search needs
 
 returns : tie.Need-returns
-returns c = behind-put _ _ _ _ (c .before .before .before .before .before .before .before .before .pre) _ (c .before .before .put-item .kept .0) (c .before .before .before .before .if1 .taken) (c .before .before .put-item .ensures)
+returns c = last-behind _ _ _ _ (c .before .before .before .before .before .before .before .before .pre) _ (c .before .before .before .before .if1 .taken) (c .before .before .put-behind .ensures)
 
 sub-join-to : tie.Need-sub-join-to
 sub-join-to c = search needs
@@ -52,12 +40,8 @@ pub deliver-spec : {M : Type 1} → statement M
 deliver-spec =
     tie.close
     (tie.spec
-    slice-read-n
-    mul-put-item
-    add-put-item
-    put-item-requires
-    add-r
-    slice-write-r
+    slice-read-if1
+    put-behind-requires
     same-length
     returns
     sub-join-to
