@@ -2,27 +2,31 @@
 use mathlib.Core.Path.{_≡_, refl, sym, ap, _∙_}
 use mathlib.Core.Bool.{true, false}
 use mathlib.Core.List.{List, [], _∷_, _++_}
-use Prim.Native.Nat.{ℕ, zero, suc, _≤_, _<_}
+use Prim.Native.Nat.{ℕ, zero, suc, _≤_}
 use native.Mathlib.Omega.{arith}
 use lib.ListN.{length, getD, set, length-set}
-use Rattle.protocol.specs.declared.Refusal.the-variants.{NoRequest, Held}
+use Rattle.protocol.specs.declared.Refusal.the-variants.{NoDevice, NoRequest, Held}
 use Rattle.protocol.specs.Machine.{Table, Item, prefix, live, fine, tell, refused, step, at, accept, accept·at, withLink}
 use Rattle.sheet.specs.Sheet.{sheet}
 use Rattle.sheet.specs.declared.Answer.the-variants.{Done, Refused}
-use Rattle.words.specs.Layout.{QUEUE, ITEM·KIND, LIVE, TAKEN, CHANNEL, REQUEST, CONNECTION, WAITING·LENGTH, WAITING, ITEMS·LENGTH, ITEMS, RECORD}
+use Rattle.words.specs.Layout.{ITEM·KIND, LIVE, TAKEN, REQUEST, CONNECTION, WAITING·LENGTH, WAITING, ITEMS·LENGTH, ITEMS, RECORD, DEVICES, CELLS}
 use Rattle.words.proofs.Places.{set-kept, set-new}
 use Rattle.record.specs.Reading.{channelOf, connectionOf, requestOf, itemAt, linkOf, deviceOf}
 use Rattle.record.specs.Valid.{IsRecord}
 use Rattle.record.proofs.Queues.{queue-length}
 use Rattle.device.specs.Did.{Did, answerOf, deviceAfter}
 use Rattle.device.specs.Items.{itemsOf}
-use Rattle.device.specs.Parts.{Requeued, QueueIs, roundEntry, itemEntry}
+use Rattle.device.specs.Parts.{Requeued, roundEntry, itemEntry}
 use Rattle.device.proofs.Entries.{item-local, requeued-outside}
 use Rattle.device.proofs.Parts.{WordsAre, parts-of}
 use Rattle.device.proofs.Steps.{told}
+use Rattle.table.specs.Table.{reading, IsTable}
+use Rattle.table.specs.Promise.{Stepped}
+use Rattle.table.proofs.Lifted.{no-device}
 use Rattle.server.specs.Accept.{takenUp, accept·with}
 use Rattle.server.specs.Deliver.{ItemReady, Stackable}
-use Rattle.server.specs.Turn.{Sound, Turned}
+use Rattle.server.specs.Prefix.{PrefixIs}
+use Rattle.server.specs.Turn.{Turned}
 use Rattle.server.proofs.Links.{Chain, requeued-same, channel-kept, link-turned}
 
 module _ (devices cells : ℕ) (xs ss : List ℕ) (R : IsRecord devices cells xs) where
@@ -123,3 +127,10 @@ module _ (devices cells : ℕ) (xs ss : List ℕ) (R : IsRecord devices cells xs
 pub accept-at : (d : ℕ) (t : Table sheet) (i : Item sheet) → i ≡ prefix (t .sheet) (t .taken) → step sheet (accept d) t ≡ at sheet t d (accept·with i)
 unfolding step accept·at accept·with
 accept-at d t i e = ap (λ (p : Item sheet). at sheet t d (accept·with p)) (sym e)
+
+-- The present prefix is an item of the table.
+pub prefix-item : (xs ss : List ℕ) → IsTable xs → PrefixIs xs (getD xs DEVICES 0) (getD xs CELLS 0) ss → ItemReady (getD xs DEVICES 0) (getD xs CELLS 0) ss
+prefix-item xs ss T P = let z = T .valid .sizes in record { few-devices = omega arith; few-cells = omega arith; item = P .item; valid = P .valid }
+
+pub accept-nobody : (xs : List ℕ) (d : ℕ) → IsTable xs → getD xs DEVICES 0 ≤ d → Stepped (step sheet (accept d)) xs (Refused NoDevice) xs
+accept-nobody xs d T h = no-device (accept d) (accept·with (prefix (reading xs .sheet) (reading xs .taken))) xs d (accept-at d (reading xs) (prefix (reading xs .sheet) (reading xs .taken)) refl) T h

@@ -19,7 +19,7 @@ use Rattle.table.proofs.Each.{each-ahead}
 use Rattle.table.proofs.Tables.{record-of}
 use Rattle.server.specs.Ends.{ended, Ended}
 use Rattle.server.specs.Gather.{TableReady}
-use Rattle.server.proofs.Turns.{all-turned}
+use Rattle.server.proofs.Turns.{all-turned, server-sheet}
 
 pub serverdrop-at : (d : ℕ) (t : Table sheet) → step sheet (serverdrop d) t ≡ at sheet t d (serverdrop·at sheet)
 unfolding step
@@ -62,5 +62,5 @@ module _ (xs ys : List ℕ) (T : IsTable xs) (l : length ys ≡ length xs) (E : 
   crashed = record {
     no-table = λ n. absurd (n T);
     answer = λ t. unfold step in refl;
-    after = λ t. all-turned xs ys (T .valid) l (λ d. ended (deviceOf (getD xs DEVICES 0) (getD xs CELLS 0) (recordAt xs d))) (λ d. getD (recordAt xs d) TAKEN 0) (record { each = E .each; kept = E .kept }) _ crash-is;
+    after = λ t. all-turned xs xs ys (T .valid) l (reading xs .sheet) (server-sheet xs (T .valid)) (λ i o. refl) (λ d. ended (deviceOf (getD xs DEVICES 0) (getD xs CELLS 0) (recordAt xs d))) (λ d. getD (recordAt xs d) TAKEN 0) (record { each = E .each; kept = E .kept }) _ crash-is;
   }

@@ -9,3 +9,5 @@ pub mod Links
 pub mod Accepts
 pub mod Goes
 pub mod Settles
+pub mod Batches
+pub mod Moves

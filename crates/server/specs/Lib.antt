@@ -5,3 +5,4 @@ pub mod Prefix
 pub mod Deliver
 pub mod Accept
 pub mod Settle
+pub mod Batch

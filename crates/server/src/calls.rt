@@ -3,13 +3,17 @@ ghost use Rattle.protocol.specs.Machine.{step};
 ghost use Rattle.protocol.specs.Machine as machine;
 ghost use Rattle.sheet.specs.Sheet.{sheet};
 ghost use Rattle.table.specs.Promise.{Stepped};
+use crate::accept::take_request;
+use crate::batch::take_rounds;
 use crate::ends::drop_connection;
 use crate::ends::end_all;
+use crate::prefix::make_prefix;
 use protocol::Refusal;
 use sheet::Answer;
 use table::check::is_table;
 use words::layout::CELLS;
 use words::layout::DEVICES;
+use words::layout::ITEM;
 use words::layout::RECORD;
 use words::layout::RECORDS;
 
@@ -39,4 +43,51 @@ pub fn crash(t: &mut [u64]) -> Answer
     let cells = t[CELLS] as usize;
     end_all(t, devices, cells);
     Answer::Done
+}
+
+pub fn accept(t: &mut [u64], d: u64) -> Answer
+    ensures { λ a. ⌜ Stepped (step sheet (machine.accept d)) (now (t .entry)) a (now (t .exit)) ⌝ }
+{
+    if !is_table(t) {
+        return Answer::Refused(Refusal::NoTable);
+    }
+    if d >= t[DEVICES] {
+        return Answer::Refused(Refusal::NoDevice);
+    }
+    let devices = t[DEVICES] as usize;
+    let cells = t[CELLS] as usize;
+    let mut prefix = [0u64; ITEM];
+    make_prefix(&mut prefix, t, devices, cells);
+    let a = RECORDS + RECORD * (d as usize);
+    let e = a + RECORD;
+    take_request(&mut t[a..e], &prefix, devices, cells)
+}
+
+// "a device without a count in the list has 0, counts past the last device are ignored"
+pub fn batch(t: &mut [u64], counts: &[u64]) -> Answer
+    ensures { λ a. ⌜ Stepped (step sheet (machine.batch (now (counts .entry)))) (now (t .entry)) a (now (t .exit)) ⌝ }
+{
+    if !is_table(t) {
+        return Answer::Refused(Refusal::NoTable);
+    }
+    let reach = t[DEVICES];
+    let cells = t[CELLS] as usize;
+    Answer::Moved(take_rounds(t, counts, reach, false, reach as usize, cells))
+}
+
+// A stop after a batch is stored. It is a crash also where no round was taken.
+pub fn cut(t: &mut [u64], counts: &[u64], reach: u64) -> Answer
+    ensures { λ a. ⌜ Stepped (step sheet (machine.cut (now (counts .entry)) reach)) (now (t .entry)) a (now (t .exit)) ⌝ }
+{
+    if !is_table(t) {
+        return Answer::Refused(Refusal::NoTable);
+    }
+    let devices = t[DEVICES] as usize;
+    let cells = t[CELLS] as usize;
+    let moved = take_rounds(t, counts, reach, true, devices, cells);
+    if moved != 0 {
+        return Answer::Moved(moved);
+    }
+    end_all(t, devices, cells);
+    Answer::Moved(0)
 }

@@ -1,5 +1,6 @@
 // The server and the link on the lent table.
 mod accept;
+mod batch;
 pub mod calls;
 mod deliver;
 mod ends;
