@@ -11,6 +11,9 @@ use cells::signed::bits_of_i64;
 use cells::signed::i64_of_bits;
 use cells::stored::cell_kind;
 use cells::stored::change_words_ok;
+use crate::runs::runs;
+
+mod runs;
 
 const OUT: i32 = 1;
 
@@ -129,4 +132,5 @@ fn main() {
     sums();
     words();
     tests();
+    runs();
 }
