@@ -1,2 +1,5 @@
 pub mod Images
 pub mod Desk
+pub mod Never1
+pub mod Reaches
+pub mod Demand3
