@@ -5,3 +5,4 @@ pub mod Stages
 pub mod Stepping
 pub mod Again
 pub mod Front
+pub mod Held

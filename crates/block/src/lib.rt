@@ -112,7 +112,13 @@ fn join_one(t: &mut [u64], d: u64, cell: u64, u: Update) -> Answer
     let cells = t[CELLS] as usize;
     let a = RECORDS + RECORD * (d as usize);
     let e = a + RECORD;
-    on_record(&mut t[a..e], devices, cells, d as usize, Op::Update(cell, u))
+    on_record(
+        &mut t[a..e],
+        devices,
+        cells,
+        d as usize,
+        Op::Update(cell, u),
+    )
 }
 
 // One turn: the update e is looked at, or joined.
