@@ -6,3 +6,4 @@ pub mod Stepping
 pub mod Again
 pub mod Front
 pub mod Held
+pub mod Theorems
