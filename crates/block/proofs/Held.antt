@@ -14,7 +14,7 @@ use prog.Routine.{Routine}
 use prog.Wp.{Heap}
 use ghost.Atoms.{Atoms, sem}
 use contract.Monad.{Fun, fact}
-use types.Kit.{Given, ‵, _⊛_, ⋆, _$_, _∵_, !, qed, move, join, fjoin, suffices, frame, done}
+use types.Kit.{Given, ‵, ⋆, _$_, _∵_, !, qed, move, join, fjoin, suffices, frame, done}
 use types.Share.{arr-parts}
 use denote.Laws.{Is}
 use denote.Memory.{shares}

@@ -3,14 +3,13 @@ use mathlib.Core.Path.{_≡_, refl, sym, ap, _∙_, subst, fun-ext}
 use mathlib.Core.Bool.{Bool, true, false}
 use mathlib.Core.List.{List, [], _∷_}
 use mathlib.Core.Option.{Option, none, some}
-use Prim.Native.Nat.{ℕ, suc, _+_, _<_}
+use Prim.Native.Nat.{ℕ, suc, _<_}
 use native.Mathlib.Omega.{arith}
-use lib.Dec.{ltb, eqb}
-use lib.ListN.{getD}
+use lib.Dec.{eqb}
 use borrow.Author.Tests.{lt-ltb, eq-eqb, eqb-true}
 use Rattle.cells.specs.declared.Change.{Change}
 use Rattle.protocol.specs.declared.Refusal.{Refusal}
-use Rattle.protocol.specs.Machine.{choose, put, Device, Table, Local, Result, fine, tell, unlessRefused, joined, settle, step, block·at, update·at}
+use Rattle.protocol.specs.Machine.{choose, put, Device, Table, fine, tell, unlessRefused, joined, settle, step, block·at, update·at}
 use Rattle.protocol.specs.Machine as machine
 use Rattle.protocol.specs.Claims.{joinUpdates}
 use Rattle.protocol.specs.Fits.{Fits, FitsDevice}

@@ -4,7 +4,7 @@ use mathlib.Core.List.{List}
 use Prim.Native.Nat.{ℕ, zero, suc, _+_, _*_, _<_}
 use native.Mathlib.Omega.{arith}
 use lib.ListN.{getD}
-use Rattle.protocol.specs.Machine.{Device, Link, Table}
+use Rattle.protocol.specs.Machine.{Device, Link}
 use Rattle.sheet.specs.Sheet.{sheet}
 use Rattle.words.specs.Layout.{ROUND, ITEM, PENDING·LENGTH, WAITING·LENGTH, ITEMS·LENGTH, RECEIVED, PENDING, WAITING, ITEMS, DEVICES, CELLS}
 use Rattle.record.specs.Reading.{queue, roundAt, bufferOf, itemAt, receivedAt, linkOf, deviceOf}

@@ -1,9 +1,9 @@
 -- The claims of specs/Claims.antt, each proved. Assumes nothing.
-use mathlib.Core.Path.{_≡_, refl, sym, ap, _∙_, subst}
+use mathlib.Core.Path.{_≡_, refl, sym, ap, _∙_}
 use mathlib.Core.Logic.{_⊎_, inl, inr, ⊎-elim}
 use mathlib.Core.List.{List, [], _∷_, map}
 use mathlib.Core.Option.{Option, none, some}
-use Prim.Native.Nat.{ℕ, zero, suc, _≤_, _<_}
+use Prim.Native.Nat.{ℕ, zero, suc, _<_}
 use native.Mathlib.Omega.{arith}
 use Rattle.cells.specs.declared.Change.{Change}
 use Rattle.protocol.specs.declared.Refusal.{Refusal}
@@ -14,17 +14,16 @@ use Rattle.protocol.specs.History.{Every}
 use Rattle.protocol.specs.Claims.{joinUpdates}
 use Rattle.protocol.specs.Refusals.{FirstBad as FirstBadOn}
 use Rattle.sheet.specs.Sheet.{sheet}
-use Rattle.sheet.specs.Answer.{meaning}
 use Rattle.sheet.specs.declared.Answer.{Answer}
 use Rattle.sheet.specs.declared.Answer.the-variants.{Done, RefusedAt}
 use Rattle.sheet.proofs.OneAnswer.{meaning-one}
 use Rattle.sheet.proofs.Theorem.{refused-exactly-when, refusal-changes-nothing}
 use Rattle.words.proofs.Places.{lt-or-ge}
 use Rattle.table.specs.Table.{reading, IsTable}
-use Rattle.table.specs.Promise.{Became, Stepped}
+use Rattle.table.specs.Promise.{Became}
 use Rattle.table.proofs.Once.{became-once, either-way}
 use Rattle.block.specs.Block.{updateIn, updatesIn, refusalOf}
-use Rattle.block.specs.Claims.{FirstBad, BlockAnswers, Block·answers, Block·all·or·none, Empty·block, Block·in·order}
+use Rattle.block.specs.Claims.{FirstBad, Block·answers, Block·all·or·none, Empty·block, Block·in·order}
 use Rattle.block.specs.declared.Entry.{Entry}
 use Rattle.block.proofs.Joins.{byRefusal, firstBad, opened, placed, placed-same, joined-on, block-done, block-refused, update-done}
 

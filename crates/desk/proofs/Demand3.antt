@@ -1,13 +1,14 @@
 -- Demand 3 over the calls: protocol's theorems, of the words that calls lead to. Assumes nothing.
 use mathlib.Core.Path.{_≡_, refl, sym, ap, _∙_, subst}
 use mathlib.Core.Bool.{true, false, false≢true}
-use mathlib.Core.Logic.{⊎-elim}
+use mathlib.Core.Logic.{_⊎_, inl, inr, ⊎-elim}
 use mathlib.Core.List.{List, [], _∷_, _++_, map, append-assoc}
 use Prim.Native.Nat.{ℕ, _+_, _<_}
 use native.Mathlib.Omega.{arith}
 use lib.ListN.{length, take}
 use Rattle.protocol.specs.Machine.{Start, Step, Table, step, run, fresh, batched·unless0, afterCrash}
 use Rattle.protocol.specs.Machine as machine
+use Rattle.protocol.specs.declared.Refusal.{Refusal}
 use Rattle.protocol.specs.History.{Every, tableAfter, historyAfter, mine}
 use Rattle.protocol.specs.Claims.{Explained, Onward, waitingIn}
 use Rattle.protocol.specs.Claims as Claims
@@ -15,53 +16,88 @@ use Rattle.sheet.specs.Changes.{idleBelow}
 use Rattle.sheet.specs.Sheet.{sheet}
 use Rattle.sheet.specs.Answer.{meaning}
 use Rattle.sheet.specs.declared.Answer.{Answer}
-use Rattle.sheet.specs.declared.Answer.the-variants.{Value, Yes, Moved}
+use Rattle.sheet.specs.declared.Answer.the-variants.{Done, Value, Yes, No, Moved, Length, Refused, RefusedAt}
 use Rattle.sheet.proofs.OneAnswer.{meaning-one}
 use Rattle.sheet.proofs.Theorem as Sheet
 use Rattle.words.proofs.Places.{lt-or-ge}
 use Rattle.table.specs.Promise.{Stepped}
 use Rattle.table.specs.Table.{IsTable, reading}
+use Rattle.table.proofs.Once.{became-once}
 use Rattle.image.specs.Promise.{Written, imageOfTable}
 use Rattle.desk.specs.Calls.{Call, Called, Made, Calls, Renews, anew, start, update, block, read, confirmed, push, send, ask, give·up, receive, pull, accept, serverdrop, batch, crash, cut, write·image, open·image}
 use Rattle.desk.specs.Demand3.{stepOf, stepsOf, historyOf, readBy, refusalOf, Next, reconnect, Reached, Demand·3·over·calls, Each·call}
 use Rattle.desk.proofs.Never1.{step-never-1, length-never-1, short-never-1}
-use Rattle.desk.proofs.Reaches.{Allowed·start, At, is-table, run-append, called-steps, begun-at}
+use Rattle.desk.proofs.Reaches.{start-stays, opening-stays, Allowed·start, At, is-table, run-append, called-steps, begun-at}
+
+-- An answer with a refusal's number is a refusal of the machine, with a position or without.
+refusal-is : (a : Answer) → 0 < refusalOf a → (r : Refusal) × ((meaning a ≡ machine.refused r) ⊎ ((k : ℕ) × (meaning a ≡ machine.refusedAt r k)))
+refusal-is Done h = absurd (omega arith)
+refusal-is (Value c) h = absurd (omega arith)
+refusal-is Yes h = absurd (omega arith)
+refusal-is No h = absurd (omega arith)
+refusal-is (Moved k) h = absurd (omega arith)
+refusal-is (Length k) h = absurd (omega arith)
+refusal-is (Refused r) h = (r, inl refl)
+refusal-is (RefusedAt r k) h = (r, inr (k, refl))
 
 -- The next call on words that are a table.
 module _ (xs : List ℕ) (T : IsTable xs) (a : Answer) (ys : List ℕ) where
-  stepping : (s : Step sheet) → Stepped (step sheet s) xs a ys → (meaning a ≡ step sheet s (reading xs) .answer) × (refusalOf a ≡ 1 → ⊥)
-  stepping s S = (S .answer T, step-never-1 s (reading xs) a (S .answer T))
+  -- a refused step leaves what the words say, and so every word
+  step-stays : (s : Step sheet) → Stepped (step sheet s) xs a ys → 0 < refusalOf a → ys ≡ xs
+  step-stays s S h =
+      let p = refusal-is a h in
+      let N = Sheet.refusal-changes-nothing s (reading xs) (p .0) in
+      let same = ⊎-elim (λ e. N .0 (sym (S .answer T) ∙ e)) (λ q. N .1 (q .0) (sym (S .answer T) ∙ q .1)) (p .1) in
+      became-once xs ys xs _ (S .after T) record { says = sym same; valid = T .valid; kept = λ _ _. refl; size = refl }
 
   writing : (buffer buffer′ : List ℕ) → Written xs buffer a buffer′ → refusalOf a ≡ 1 → ⊥
   writing buffer buffer′ W =
       let S = W .stores T in
       ⊎-elim (λ l. short-never-1 a (S .short l .number)) (λ g. length-never-1 a _ (S .answer g)) (lt-or-ge (length buffer) (length (imageOfTable (reading xs))))
 
-module _ (xs : List ℕ) (T : IsTable xs) (a : Answer) (ys : List ℕ) where
-  by-step : {c : Call} (s : Step sheet) → stepOf c ≡ s ∷ [] → (zs : List ℕ) → Stepped (step sheet s) xs a zs → Next (reading xs) c a
-  by-step {c} s e zs S =
-      let p = stepping xs T a zs s S in
-      record { answers = subst (Every (λ s. meaning a ≡ step sheet s (reading xs) .answer)) (sym e) (p .0, tt); never-1 = λ _. p .1 }
+  buffer-stays : (buffer buffer′ : List ℕ) → Written xs buffer a buffer′ → 0 < refusalOf a → buffer′ ≡ buffer
+  buffer-stays buffer buffer′ W h =
+      let S = W .stores T in
+      ⊎-elim (λ l. S .short l .untouched) (λ g. let z = ap refusalOf (meaning-one a (Length _) (S .answer g)) in absurd (omega arith)) (lt-or-ge (length buffer) (length (imageOfTable (reading xs))))
 
-  next-is : (c : Call) → Called c xs a ys → Next (reading xs) c a
-  next-is (start devices cells) C = record { answers = tt; never-1 = λ e. absurd (false≢true (sym e)) }
-  next-is (update d cell u) C = by-step _ refl ys C
-  next-is (block d us) C = by-step _ refl ys C
-  next-is (read d cell) C = by-step _ refl xs (C .0)
-  next-is (confirmed d) C = by-step _ refl xs (C .0)
-  next-is (push d) C = by-step _ refl ys C
-  next-is (send d) C = by-step _ refl ys C
-  next-is (ask d) C = by-step _ refl ys C
-  next-is (give·up d) C = by-step _ refl ys C
-  next-is (receive d) C = by-step _ refl ys C
-  next-is (pull d) C = by-step _ refl ys C
-  next-is (accept d) C = by-step _ refl ys C
-  next-is (serverdrop d) C = by-step _ refl ys C
-  next-is (batch counts) C = by-step _ refl ys C
-  next-is crash C = by-step _ refl ys C
-  next-is (cut counts reach) C = by-step _ refl ys C
-  next-is (write·image buffer buffer′) C = record { answers = tt; never-1 = λ _. writing xs T a ys buffer buffer′ (C .0) }
-  next-is (open·image bytes) C = record { answers = tt; never-1 = λ e. absurd (false≢true (sym e)) }
+  not-done : 0 < refusalOf a → a ≡ Done → ⊥
+  not-done h e = let z = ap refusalOf e in omega arith
+
+  by-step : {c : Call} (s : Step sheet) → stepOf c ≡ s ∷ [] → Stepped (step sheet s) xs a ys → Next (reading xs) c xs a ys
+  by-step {c} s e S =
+      record {
+        answers = subst (Every (λ s. meaning a ≡ step sheet s (reading xs) .answer)) (sym e) (S .answer T, tt);
+        never-1 = λ _. step-never-1 s (reading xs) a (S .answer T);
+        untouched = step-stays s S;
+      }
+
+  by-look : {c : Call} (s : Step sheet) → stepOf c ≡ s ∷ [] → Stepped (step sheet s) xs a xs → ys ≡ xs → Next (reading xs) c xs a ys
+  by-look {c} s e S q =
+      record {
+        answers = subst (Every (λ s. meaning a ≡ step sheet s (reading xs) .answer)) (sym e) (S .answer T, tt);
+        never-1 = λ _. step-never-1 s (reading xs) a (S .answer T);
+        untouched = λ _. q;
+      }
+
+  next-is : (c : Call) → Called c xs a ys → Next (reading xs) c xs a ys
+  next-is (start devices cells) C = record { answers = tt; never-1 = λ e. absurd (false≢true (sym e)); untouched = λ h. start-stays devices cells xs ys a C (not-done h) }
+  next-is (update d cell u) C = by-step _ refl C
+  next-is (block d entries) C = by-step _ refl C
+  next-is (read d cell) C = by-look _ refl (C .0) (C .1)
+  next-is (confirmed d) C = by-look _ refl (C .0) (C .1)
+  next-is (push d) C = by-step _ refl C
+  next-is (send d) C = by-step _ refl C
+  next-is (ask d) C = by-step _ refl C
+  next-is (give·up d) C = by-step _ refl C
+  next-is (receive d) C = by-step _ refl C
+  next-is (pull d) C = by-step _ refl C
+  next-is (accept d) C = by-step _ refl C
+  next-is (serverdrop d) C = by-step _ refl C
+  next-is (batch counts) C = by-step _ refl C
+  next-is crash C = by-step _ refl C
+  next-is (cut counts reach) C = by-step _ refl C
+  next-is (write·image buffer buffer′) C = record { answers = tt; never-1 = λ _. writing buffer buffer′ (C .0); untouched = λ _. C .1 }
+  next-is (open·image bytes) C = record { answers = tt; never-1 = λ e. absurd (false≢true (sym e)); untouched = λ h. opening-stays bytes xs ys a C (not-done h) }
 
 -- The steps of calls, by the calls alone; of more calls; and calls that make no table anew.
 abbrev stepsOfCalls : List Call → List (Step sheet)
@@ -132,6 +168,7 @@ module _ (b : Start sheet) (ms : List Made) (xs : List ℕ) (k : Allowed·start 
         is-table = T;
         explained = explained-at;
         next = λ c a ys. next-is xs T a ys c;
+        buffer-untouched = λ buffer buffer′ a ys C. buffer-stays xs T a ys buffer buffer′ (C .0);
         reads = reads-at;
         confirms = confirms-at;
         moves = moves-at;

@@ -3,3 +3,4 @@ pub mod Desk
 pub mod Never1
 pub mod Reaches
 pub mod Demand3
+pub mod Openings

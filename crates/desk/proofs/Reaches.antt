@@ -44,17 +44,17 @@ pub run-append : (ss more : List (Step sheet)) (t : Table sheet) → run sheet (
 run-append [] more t = refl
 run-append (s ∷ ss) more t = run-append ss more (step sheet s t .table)
 
-done-refused : (a : Answer) (r : Refusal) → a ≡ Done → meaning a ≡ refused r → ⊥
+pub done-refused : (a : Answer) (r : Refusal) → a ≡ Done → meaning a ≡ refused r → ⊥
 done-refused a r p q = let w = ap meaning p in let z : _≡_ {A = ℕ} 0 1 = cc in omega arith
 
 -- A start or an opening that is refused leaves the words.
-start-stays : (devices cells : ℕ) (xs ys : List ℕ) (a : Answer) → Started devices cells xs a ys → (a ≡ Done → ⊥) → ys ≡ xs
+pub start-stays : (devices cells : ℕ) (xs ys : List ℕ) (a : Answer) → Started devices cells xs a ys → (a ≡ Done → ⊥) → ys ≡ xs
 start-stays devices cells xs ys a S n =
     either-way (Sizes devices cells) a a ys xs
     (λ z. (refl, ⊎-elim (λ l. S .short z l .untouched) (λ g. absurd (n (meaning-one a Done (S .begun z g .0)))) (lt-or-ge (length xs) (need devices))))
     (λ z. (refl, S .outside z .untouched)) .1
 
-opening-stays : (bytes xs ys : List ℕ) (a : Answer) → Opened bytes xs a ys → (a ≡ Done → ⊥) → ys ≡ xs
+pub opening-stays : (bytes xs ys : List ℕ) (a : Answer) → Opened bytes xs a ys → (a ≡ Done → ⊥) → ys ≡ xs
 opening-stays bytes xs ys a O n =
     either-way ((cells : List Cell) × (numbers : List ℕ) × Allowed cells numbers × (bytes ≡ imageOf cells numbers)) a a ys xs
     (λ p. (refl, made (O .makes (p .0) (p .1) (p .2) (p .3))))
@@ -80,7 +80,7 @@ module _ (b : Start sheet) (k : Allowed·start b) (steps : List (Step sheet)) wh
   pub called-step : (c : Call) (xs ys : List ℕ) (a : Answer) → At b steps xs → Called c xs a ys → (Renews record { call = c; answer = a } → ⊥) → At b (steps ++ stepOf c) ys
   called-step (start devices cells) xs ys a A C n = stays xs ys A (start-stays devices cells xs ys a C (λ e. n (refl, e)))
   called-step (update d cell u) xs ys a A C n = stepped _ xs ys a A C
-  called-step (block d us) xs ys a A C n = stepped _ xs ys a A C
+  called-step (block d entries) xs ys a A C n = stepped _ xs ys a A C
   called-step (read d cell) xs ys a A C n = looked _ xs ys a A C
   called-step (confirmed d) xs ys a A C n = looked _ xs ys a A C
   called-step (push d) xs ys a A C n = stepped _ xs ys a A C

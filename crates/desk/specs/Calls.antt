@@ -8,12 +8,13 @@ use Rattle.cells.specs.declared.Update.{Update}
 use Rattle.protocol.specs.Machine.{Start, step}
 use Rattle.protocol.specs.Machine as machine
 use Rattle.protocol.specs.History.{Every}
-use Rattle.sheet.specs.Changes.{CellUpdate}
 use Rattle.sheet.specs.Sheet.{sheet, started}
 use Rattle.sheet.specs.declared.Answer.{Answer}
 use Rattle.sheet.specs.declared.Answer.the-variants.{Done}
 use Rattle.device.specs.Did.{updateOf}
 use Rattle.table.specs.Promise.{Stepped, Started}
+use Rattle.block.specs.Block.{updatesIn}
+use Rattle.block.specs.declared.Entry.{Entry}
 use Rattle.image.specs.Image.{imageOf, Allowed}
 use Rattle.image.specs.Promise.{Written, Opened, startOf}
 
@@ -21,7 +22,7 @@ use Rattle.image.specs.Promise.{Written, Opened, startOf}
 pub data Call : Type 0 where
   start : (devices cells : ℕ) → Call
   update : (d cell : ℕ) → Update → Call
-  block : (d : ℕ) → List CellUpdate → Call
+  block : (d : ℕ) (entries : List Entry) → Call
   read : (d cell : ℕ) → Call
   confirmed push send ask give·up receive pull accept serverdrop : (d : ℕ) → Call
   batch : (counts : List ℕ) → Call
@@ -34,7 +35,7 @@ pub data Call : Type 0 where
 abbrev pub Called : Call → List ℕ → Answer → List ℕ → Type 0
 Called (start devices cells) xs a ys = Started devices cells xs a ys
 Called (update d cell u) xs a ys = Stepped (step sheet (machine.update d (updateOf cell u))) xs a ys
-Called (block d us) xs a ys = Stepped (step sheet (machine.block d us)) xs a ys
+Called (block d entries) xs a ys = Stepped (step sheet (machine.block d (updatesIn entries))) xs a ys
 Called (read d cell) xs a ys = Stepped (step sheet (machine.read d cell)) xs a xs × (ys ≡ xs)
 Called (confirmed d) xs a ys = Stepped (step sheet (machine.confirmed d)) xs a xs × (ys ≡ xs)
 Called (push d) xs a ys = Stepped (step sheet (machine.push d)) xs a ys
@@ -65,7 +66,7 @@ Calls xs (m ∷ ms) ys = (zs : List ℕ) × Called (m .call) xs (m .answer) zs �
 abbrev pub anew : Call → Bool
 anew (start devices cells) = true
 anew (update d cell u) = false
-anew (block d us) = false
+anew (block d entries) = false
 anew (read d cell) = false
 anew (confirmed d) = false
 anew (push d) = false

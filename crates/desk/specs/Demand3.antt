@@ -17,13 +17,14 @@ use Rattle.sheet.specs.declared.Answer.{Answer}
 use Rattle.sheet.specs.declared.Answer.the-variants.{Done, Value, Yes, No, Moved, Length, Refused, RefusedAt}
 use Rattle.device.specs.Did.{updateOf}
 use Rattle.table.specs.Table.{reading, IsTable}
-use Rattle.desk.specs.Calls.{Call, Called, Made, Calls, Run, anew, start, update, block, read, confirmed, push, send, ask, give·up, receive, pull, accept, serverdrop, batch, crash, cut, write·image, open·image}
+use Rattle.block.specs.Block.{updatesIn}
+use Rattle.desk.specs.Calls.{Call, Called, Made, Calls, Renews, Begun, Run, anew, start, update, block, read, confirmed, push, send, ask, give·up, receive, pull, accept, serverdrop, batch, crash, cut, write·image, open·image}
 
 -- The machine's step of a call. A start and an opening that are refused have none, and neither has writing an image.
 abbrev pub stepOf : Call → List (Step sheet)
 stepOf (start devices cells) = []
 stepOf (update d cell u) = machine.update d (updateOf cell u) ∷ []
-stepOf (block d us) = machine.block d us ∷ []
+stepOf (block d entries) = machine.block d (updatesIn entries) ∷ []
 stepOf (read d cell) = machine.read d cell ∷ []
 stepOf (confirmed d) = machine.confirmed d ∷ []
 stepOf (push d) = machine.push d ∷ []
@@ -66,12 +67,14 @@ refusalOf (Length k) = 0
 refusalOf (Refused r) = numberOf r
 refusalOf (RefusedAt r k) = numberOf r
 
--- What a call on words that say the table t answers.
-pub record Next (t : Table sheet) (c : Call) (a : Answer) : Type 0 where
+-- What a call on the words xs, which say the table t, answers, and what it leaves where it is refused.
+pub record Next (t : Table sheet) (c : Call) (xs : List ℕ) (a : Answer) (ys : List ℕ) : Type 0 where
   -- the machine's answer, where the call is a step of the machine
   pub answers : Every (λ s. meaning a ≡ step sheet s t .answer) (stepOf c)
   -- "Every reached table is one, so 1 never comes from it": a start's or an opening's 1 is about the room for what it is to make
   pub never-1 : anew c ≡ false → refusalOf a ≡ 1 → ⊥
+  -- "A refusal .. leaves table .. untouched": every word
+  pub untouched : 0 < refusalOf a → ys ≡ xs
 
 -- "serverdrop, ask, accept, receive, batch 8, receive, pull, send, batch 8, receive, pull, done in a row with .. other devices' counts 0"
 abbrev pub reconnect : ℕ → List Call
@@ -87,7 +90,9 @@ pub record Reached (b : Start sheet) (ms : List Made) (xs : List ℕ) : Type 0 w
   -- knows is a beginning of it (protocol, specs/Claims.antt)
   pub explained : Explained sheet b (reading xs) (historyOf b ms)
   -- whatever is called next, refused or not
-  pub next : (c : Call) (a : Answer) (ys : List ℕ) → Called c xs a ys → Next (reading xs) c a
+  pub next : (c : Call) (a : Answer) (ys : List ℕ) → Called c xs a ys → Next (reading xs) c xs a ys
+  -- ".. and output buffer untouched"
+  pub buffer-untouched : (buffer buffer′ : List ℕ) (a : Answer) (ys : List ℕ) → Called (write·image buffer buffer′) xs a ys → 0 < refusalOf a → buffer′ ≡ buffer
   -- each read's value
   pub reads : (d c : ℕ) (a : Answer) (ys : List ℕ) → Called (read d c) xs a ys → d < b .devices → c < b .cells → a ≡ Value (readBy b (historyOf b ms) d c)
   -- each yes of confirmed: all that the device pushed stands in the beginning that it knows, and it has no open edit
@@ -110,3 +115,7 @@ Demand·3·over·calls = (b : Start sheet) (ms : List Made) (xs : List ℕ) → 
 -- Each call of a list is the next one on words to which the calls before it led, so the above is about each call's answer.
 abbrev pub Each·call : Type 0
 Each·call = (b : Start sheet) (ms ns : List Made) (m : Made) (zs : List ℕ) → Run b (ms ++ (m ∷ ns)) zs → (xs ys : List ℕ) × Run b ms xs × Called (m .call) xs (m .answer) ys × Calls ys ns zs
+
+-- Every start and every opening that is done begins such a run, so each list of calls falls into runs.
+abbrev pub Always·begins : Type 0
+Always·begins = (m : Made) (xs ys : List ℕ) → Called (m .call) xs (m .answer) ys → Renews m → (b : Start sheet) × Begun b ys
