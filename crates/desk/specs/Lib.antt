@@ -1,1 +1,3 @@
 pub mod Desk
+pub mod Calls
+pub mod Demand3
