@@ -73,7 +73,7 @@ cellBy Word.Measure n t = cond (eqb n 1) (measureOf (fieldOf 1 t)) NoCell
 cellBy Word.Add n t = NoCell
 cellBy Word.Unknown n t = NoCell
 
--- the cell that a text is; `proofs/Reads.antt` shows that it finds exactly the texts of cells
+-- the cell that a text is; `proofs/Exactly.antt` shows that it finds exactly the texts of cells
 unfoldable pub cellFrom : List ℕ → Meant
 unfolding cellBy
 cellFrom t = cellBy (wordOf (fieldOf 0 t)) (commasOf t) t
