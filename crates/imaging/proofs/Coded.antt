@@ -1,10 +1,10 @@
 -- Values whose code is a line: a text of their own and its CR LF. Assumes nothing.
-use mathlib.Core.List.{List, [], _++_, _∷_, append-cancel-left}
+use mathlib.Core.List.{List, _++_, append-cancel-left}
 use mathlib.Core.Logic.{⊎-elim}
 use mathlib.Core.Path.{_∙_, _≡_, ap, refl, subst, sym}
 use Prim.Native.Nat.{ℕ}
 use native.Mathlib.Omega.{arith}
-use lib.ListN.{drop, length}
+use lib.ListN.{length}
 use Rattle.cbor.proofs.Apart.{Free}
 use Rattle.cbor.specs.Code.{Here, Nowhere}
 use Rattle.cells.specs.declared.Cell.{Cell}
@@ -13,7 +13,6 @@ use Rattle.words.proofs.Places.{lt-or-ge}
 use Rattle.steps.specs.Answer.{answerLine, answerText, cellText}
 use Rattle.image.specs.Image.{NumberAllowed}
 use Rattle.image.specs.Item.{CellAllowed}
-use Rattle.image.specs.declared.cell.Meant.{Meant}
 use Rattle.image.specs.declared.cell.Meant.the-variants.{Means, NoCell}
 use Rattle.imaging.specs.Shown.{cellLine, numberLine, numberRecord}
 use Rattle.imaging.specs.Texts.{EndsAt, LineText, Plain, cellFrom, ended, numberFrom}

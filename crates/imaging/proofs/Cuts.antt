@@ -10,7 +10,7 @@ use lib.Dec.{eqb}
 use lib.ListN.{drop, getD, length, length-append, take}
 use lib.Seq.{getD-append-seam, length-take-le, split-at, take-all, take-at, take-suc}
 use Rattle.lines.specs.Lines.{endsLine, initOf, lastOf}
-use Rattle.lines.proofs.Ends.{ends-cr, ends-lf, last-none, last-snoc, length-init}
+use Rattle.lines.proofs.Ends.{ends-cr, ends-lf, last-snoc}
 use Rattle.imaging.specs.Texts.{Plain, ended}
 
 -- an LF ends a line, and only behind a CR

@@ -1,14 +1,13 @@
 -- A text that is read as a cell or as a number is the text of one, and each such text is read. Assumes nothing.
-use mathlib.Core.Bool.{Bool, true, false, cond}
+use mathlib.Core.Bool.{true}
 use mathlib.Core.List.{List, [], _∷_}
 use mathlib.Core.Path.{_∙_, _≡_, ap, refl, sym}
-use Prim.Native.Nat.{ℕ, suc}
+use Prim.Native.Nat.{ℕ}
 use native.Mathlib.Omega.{arith}
 use borrow.Author.Tests.{eqb-true}
 use lib.Dec.{eqb}
-use lib.Ieee.{binary64, ofBits, toBits}
+use lib.Ieee.{binary64, toBits}
 use lib.Ieee.Bits.{ofBits-fits}
-use lib.IntN.{ℤ}
 use Rattle.cells.specs.Finite.{finiteWord}
 use Rattle.cells.specs.declared.Cell.{Cell}
 use Rattle.cells.specs.declared.Cell.the-variants.{Blank, Count, Measure}
@@ -16,10 +15,9 @@ use Rattle.cells.proofs.Finite.{float-word-finite, float-word-float, float-word
 use Rattle.text.specs.Field.{commasOf, fieldOf, recordOf, sameAs}
 use Rattle.text.specs.Number.{bitsOf, decimalOf, signedOf}
 use Rattle.text.specs.Text.{decimalText, hexText, signedText}
-use Rattle.text.specs.declared.number.Signed.{Signed}
 use Rattle.text.specs.declared.number.Whole.{Whole}
 use Rattle.text.proofs.DecimalTrip.{decimal-complete, decimal-sound}
-use Rattle.text.proofs.Fields.{NoComma, NoCommas, decimal-no-comma, line-fields, no-comma, record-commas, record-field, record-first, same-eq}
+use Rattle.text.proofs.Fields.{NoComma, decimal-no-comma, line-fields, no-comma, record-commas, record-field, record-first, same-eq}
 use Rattle.text.proofs.HexTrip.{bits-complete, bits-sound}
 use Rattle.text.proofs.SignedTrip.{signed-complete, signed-sound}
 use Rattle.steps.specs.Answer.{cellText}

@@ -1,9 +1,9 @@
 -- The text of an image as a whole: cells' lines, then numbers' lines, and nothing left. Assumes nothing.
 use mathlib.Core.List.{List, [], _++_, _∷_, append-assoc, append-nil}
 use mathlib.Core.Path.{_∙_, _≡_, ap, refl, subst, sym}
-use Prim.Native.Nat.{_<_, _≤_, suc, zero, ℕ}
+use Prim.Native.Nat.{_<_, ℕ}
 use native.Mathlib.Omega.{arith}
-use lib.ListN.{drop, getD, length, length-append, length-drop}
+use lib.ListN.{drop, getD, length, length-drop}
 use lib.Seq.{drop-length}
 use Rattle.cbor.proofs.Apart.{Free}
 use Rattle.cbor.specs.Code.{All, Within, each}
@@ -39,7 +39,7 @@ module _ {A : Type 0} (f : A → List ℕ) (Ok : A → Type 0) (free : Free f Ok
       (ap (λ (x : A). x ∷ k) (s .0) ∙ ap (λ (x : List A). b ∷ x) (t .0), t .1)
 
 -- a number's line is no cell's, and neither is nothing
-cell-first : (c : Cell) (r : List ℕ) → getD (cellLine c ++ r) 0 0 < 110
+pub cell-first : (c : Cell) (r : List ℕ) → getD (cellLine c ++ r) 0 0 < 110
 unfolding answerLine answerText cellText recordOf
 cell-first Blank r = omega arith
 cell-first (Count z) r = omega arith

@@ -1,12 +1,10 @@
 -- `imaging::line::line_from` meets its contract. The loop's invariant: the bytes passed are held, and no line ended in them.
 -- Assumes nothing.
-use mathlib.Core.Path.{_∙_, _≡_, refl, subst, sym}
-use Prim.Native.Nat.{_-_, _+_}
-use lib.ListN.{length, getD, take}
+use mathlib.Core.Path.{_∙_, _≡_, refl, sym}
+use Prim.Native.Nat.{_-_}
+use lib.ListN.{length}
 use native.Mathlib.Omega.{arith}
 use borrow.Author.Needs.{needs}
-use Rattle.lines.specs.Held.{bufferAfter}
-use Rattle.imaging.specs.Texts.{EndsAt}
 use Rattle.imaging.proofs.Walks.{Seen, seen-all, seen-line, seen-long, seen-more, seen-none}
 use Rattle.imaging.proofs.line.line_from.Statement.{statement}
 use Rattle.imaging.proofs.line.line_from.Tie as tie
