@@ -3,6 +3,7 @@ use mathlib.Core.List.{List, [], _++_, _∷_, append-assoc}
 use mathlib.Core.Logic.{_⊎_, ⊎-elim}
 use mathlib.Core.Path.{_∙_, _≡_, ap, refl, sym}
 use Prim.Native.Nat.{_<_, _≤_, ℕ}
+use native.Mathlib.Decide.{decLe}
 use native.Mathlib.Omega.{arith}
 use lib.ListN.{drop, getD, length, take}
 use lib.Seq.{take-at}
@@ -12,6 +13,7 @@ use Rattle.protocol.specs.Machine as machine
 use Rattle.protocol.specs.declared.Refusal.{Refusal}
 use Rattle.protocol.specs.declared.Refusal.the-variants.{BufferShort, NoImage}
 use Rattle.sheet.specs.Sheet.{sheet}
+use Rattle.sheet.specs.Answer.{meaning}
 use Rattle.sheet.specs.declared.Answer.{Answer}
 use Rattle.sheet.specs.declared.Answer.the-variants.{Length, Refused}
 use Rattle.sheet.proofs.OneAnswer.{meaning-one}
@@ -19,13 +21,13 @@ use Rattle.words.proofs.Places.{lt-or-ge}
 use Rattle.text.specs.Field.{recordOf}
 use Rattle.text.specs.Text.{Put}
 use Rattle.text.proofs.PutLaws.{put-once}
-use Rattle.table.proofs.Once.{either-way, refused-once}
+use Rattle.table.proofs.Once.{either-way, refused-once, stable}
 use Rattle.steps.specs.Answer.{answerLine, answerText}
 use Rattle.cbor.specs.Code.{each}
 use Rattle.image.specs.Image.{Allowed, NotImage, imageOf}
 use Rattle.image.specs.Promise.{Stores}
 use Rattle.imaging.specs.Claims.{Composed·shown, Composing·answers, One·composing, One·showing, One·text, Refused·shown, Shown·composed}
-use Rattle.imaging.specs.Composed.{NotText}
+use Rattle.imaging.specs.Composed.{Composed, NotText}
 use Rattle.imaging.specs.Shown.{cellLine, imageText, numberLine}
 use Rattle.imaging.proofs.WholeText.{cell-first, text-inj}
 
@@ -126,3 +128,12 @@ one-composing t old new other a b A B = either-way (Text t) a b new other
         (λ l. refused-once BufferShort old new other a b (M .short l) (N .short l))
         (λ g. (meaning-one a b (M .answer g ∙ sym (N .answer g)), M .after g ∙ sym (N .after g)))
         (room old image)
+
+-- The length that composing answers is within the buffer.
+pub composed-within : (t old new : List ℕ) (a : Answer) (k : ℕ) → Composed t old a new → meaning a ≡ length·is k → k ≤ length old
+composed-within t old new a k C e = stable (decLe k (length old)) (λ n. length-refused _ _ _ e (C .no-text (no-text t (λ p. n (text p))) .number))
+  where
+    text : Text t → k ≤ length old
+    text p =
+        let T = C .stores (p .0) (p .1) (p .2) (p .3) in
+        ⊎-elim (λ l. absurd (length-refused _ _ _ e (T .short l .number))) (λ g. omega (arith, one-length _ _ _ e (T .answer g))) (room old (imageOf (p .0) (p .1)))
