@@ -10,7 +10,6 @@ use lib.Seq.{take-at}
 use Rattle.cells.specs.declared.Cell.{Cell}
 use Rattle.protocol.specs.Machine.{length·is, refused}
 use Rattle.protocol.specs.Machine as machine
-use Rattle.protocol.specs.declared.Refusal.{Refusal}
 use Rattle.protocol.specs.declared.Refusal.the-variants.{BufferShort, NoImage}
 use Rattle.sheet.specs.Sheet.{sheet}
 use Rattle.sheet.specs.Answer.{meaning}
@@ -24,8 +23,9 @@ use Rattle.text.proofs.PutLaws.{put-once}
 use Rattle.table.proofs.Once.{either-way, refused-once, stable}
 use Rattle.steps.specs.Answer.{answerLine, answerText}
 use Rattle.cbor.specs.Code.{each}
-use Rattle.image.specs.Image.{Allowed, NotImage, imageOf}
+use Rattle.image.specs.Image.{Allowed, imageOf}
 use Rattle.image.specs.Promise.{Stores}
+use Rattle.image.proofs.Theorems.{Image, length-refused, none, one-length}
 use Rattle.imaging.specs.Claims.{Composed·shown, Composing·answers, One·composing, One·showing, One·text, Refused·shown, Shown·composed}
 use Rattle.imaging.specs.Composed.{Composed, NotText}
 use Rattle.imaging.specs.Shown.{cellLine, imageText, numberLine}
@@ -34,16 +34,8 @@ use Rattle.imaging.proofs.WholeText.{cell-first, text-inj}
 pub one-text : One·text
 one-text cells others numbers more a b e = text-inj cells others numbers more a b e
 
--- Answers that are never the same, and lengths that are.
-module _ (m : machine.Answer sheet) where
-  length-refused : (n : ℕ) (r : Refusal) → m ≡ length·is n → m ≡ refused r → ⊥
-  length-refused n r p q = let z : _≡_ {A = ℕ} 0 1 = cc in omega arith
-
-  buffer-image : m ≡ refused BufferShort → m ≡ refused NoImage → ⊥
-  buffer-image p q = let z : _≡_ {A = ℕ} 0 1 = cc in omega arith
-
-  one-length : (n k : ℕ) → m ≡ length·is n → m ≡ length·is k → n ≡ k
-  one-length n k p q = cc
+buffer-image : (m : machine.Answer sheet) → m ≡ refused BufferShort → m ≡ refused NoImage → ⊥
+buffer-image m p q = let z : _≡_ {A = ℕ} 0 1 = cc in omega arith
 
 room : (old image : List ℕ) → (length old < length image) ⊎ (length image ≤ length old)
 room old image = lt-or-ge (length old) (length image)
@@ -98,20 +90,13 @@ pub refused-shown : Refused·shown
 refused-shown bytes before after r n S cs ns ok e =
     omega (arith, ap (λ (l : List ℕ). getD l 0 0) (sym (put-front (S .no-image n)) ∙ e), refused-first, text-first cs ns (ok .sheet .count .0))
 
--- The bytes are an image.
-abbrev Image : List ℕ → Type 0
-Image bytes = (cells : List Cell) × (numbers : List ℕ) × Allowed cells numbers × (bytes ≡ imageOf cells numbers)
-
 pub one-showing : One·showing
 one-showing bytes before after other r q A B =
     let o = either-way (Image bytes) (Length r) (Length q) after other
     (λ p. told (put-once before 0 _ after r other q (A .text (p .0) (p .1) (p .2) (p .3)) (B .text (p .0) (p .1) (p .2) (p .3))))
-    (λ n. told (put-once before 0 _ after r other q (A .no-image (none n)) (B .no-image (none n)))) in
+    (λ n. told (put-once before 0 _ after r other q (A .no-image (none bytes n)) (B .no-image (none bytes n)))) in
     (o .1, lengths r q (o .0))
   where
-    none : (Image bytes → ⊥) → NotImage bytes
-    none n cells numbers ok e = n (cells, numbers, ok, e)
-
     told : (after ≡ other) × (r ≡ q) → (Length r ≡ Length q) × (after ≡ other)
     told p = (ap Length (p .1), p .0)
 

@@ -16,6 +16,7 @@ use text::number::Whole;
 use text::number::bits;
 use text::number::decimal;
 use text::number::signed_decimal;
+use words::layout::MOST_PUSHES;
 ghost use mathlib.Core.Path.{_≡_};
 ghost use Prim.Native.Nat.{_≤_};
 ghost use lib.ListN.{length};
@@ -112,7 +113,7 @@ fn number_from(t: &[u8]) -> Whole
 {
     if commas(t) == 1 {
         if same(field(t, 0), b"number") {
-            return decimal(field(t, 1), 1000000);
+            return decimal(field(t, 1), MOST_PUSHES);
         }
     }
     Whole::Not
