@@ -52,7 +52,7 @@ module _ (m : machine.Answer sheet) where
   done-refused : (r : Refusal) → m ≡ done → m ≡ refused r → ⊥
   done-refused r p q = let z : _≡_ {A = ℕ} 0 1 = cc in omega arith
 
-  length-refused : (n : ℕ) (r : Refusal) → m ≡ length·is n → m ≡ refused r → ⊥
+  pub length-refused : (n : ℕ) (r : Refusal) → m ≡ length·is n → m ≡ refused r → ⊥
   length-refused n r p q = let z : _≡_ {A = ℕ} 0 1 = cc in omega arith
 
   table-buffer : m ≡ refused NoTable → m ≡ refused BufferShort → ⊥
@@ -61,7 +61,7 @@ module _ (m : machine.Answer sheet) where
   table-image : m ≡ refused NoTable → m ≡ refused NoImage → ⊥
   table-image p q = let z : _≡_ {A = ℕ} 0 1 = cc in omega arith
 
-  one-length : (n k : ℕ) → m ≡ length·is n → m ≡ length·is k → n ≡ k
+  pub one-length : (n k : ℕ) → m ≡ length·is n → m ≡ length·is k → n ≡ k
   one-length n k p q = cc
 
 pub writing-answers : Writing·answers
@@ -141,10 +141,10 @@ written-opened xs old new a n zs ws b T W e O long =
     )
 
 -- The bytes are an image.
-abbrev Image : List ℕ → Type 0
+abbrev pub Image : List ℕ → Type 0
 Image bytes = (cells : List Cell) × (numbers : List ℕ) × Allowed cells numbers × (bytes ≡ imageOf cells numbers)
 
-none : (bytes : List ℕ) → (Image bytes → ⊥) → NotImage bytes
+pub none : (bytes : List ℕ) → (Image bytes → ⊥) → NotImage bytes
 none bytes n cells numbers ok e = n (cells, numbers, ok, e)
 
 -- What was opened has the image that it was opened from.

@@ -1,4 +1,6 @@
-// The image tool: `imager read` prints the image that stands on standard input as text. Another word is refused 13.
+// The image tool: `imager read` prints the image that stands on standard input as text, `imager write` makes the image of such a text.
+// Another word is refused 13.
+use imaging::compose::compose;
 use imaging::show::show;
 use protocol::Refusal;
 use sheet::Answer;
@@ -18,10 +20,24 @@ fn read_image() {
     io::write_all(OUTPUT, &out[..k]);
 }
 
-fn refuse() {
+fn answer(a: Answer) {
     let mut out = [0u8; 34];
-    let k = put_answer_line(&mut out, 0, Answer::Refused(Refusal::NoStep));
+    let k = put_answer_line(&mut out, 0, a);
     io::write_all(OUTPUT, &out[..k]);
+}
+
+// A longer text than the buffer holds is the text of no image either.
+fn write_image() {
+    let mut text = io::buffer();
+    let n = io::read_full(INPUT, &mut text);
+    let mut out = [0u8; 620];
+    let a = compose(&text[..n], &mut out);
+    if let Answer::Length(k) = a {
+        let long = k as usize;
+        io::write_all(OUTPUT, &out[..long]);
+    } else {
+        answer(a);
+    }
 }
 
 fn main() {
@@ -29,7 +45,9 @@ fn main() {
     let n = os::arg(1, &mut word);
     if same(&word[..n], b"read") {
         read_image();
+    } else if same(&word[..n], b"write") {
+        write_image();
     } else {
-        refuse();
+        answer(Answer::Refused(Refusal::NoStep));
     }
 }

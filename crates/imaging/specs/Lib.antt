@@ -1,1 +1,4 @@
 pub mod Shown
+pub mod Texts
+pub mod Composed
+pub mod Claims

@@ -20,9 +20,13 @@ cellLine c = answerLine (Value c)
 abbrev pub numberText : List ℕ
 numberText = 110 ∷ 117 ∷ 109 ∷ 98 ∷ 101 ∷ 114 ∷ []
 
-unfoldable pub numberLine : ℕ → List ℕ
+unfoldable pub numberRecord : ℕ → List ℕ
 unfolding recordOf
-numberLine k = recordOf numberText (decimalText k ∷ []) ++ (13 ∷ 10 ∷ [])
+numberRecord k = recordOf numberText (decimalText k ∷ [])
+
+unfoldable pub numberLine : ℕ → List ℕ
+unfolding numberRecord
+numberLine k = numberRecord k ++ (13 ∷ 10 ∷ [])
 
 unfoldable pub imageText : List Cell → List ℕ → List ℕ
 imageText cells numbers = each cellLine cells ++ each numberLine numbers

@@ -34,7 +34,8 @@ pub fn number_at(line: &[u8], k: usize) -> Whole
     decimal(field(line, k), 9223372036854775807)
 }
 
-fn word_of(f: &[u8]) -> Word
+// The word that a field is.
+pub fn word_of(f: &[u8]) -> Word
     ensures { λ r. ⌜ r ≡ wordOf (now (f .entry)) ⌝ }
 {
     if same(f, b"blank") {

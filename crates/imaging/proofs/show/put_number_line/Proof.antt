@@ -2,7 +2,7 @@
 -- Assumes nothing.
 use Rattle.text.proofs.DecimalText.{decimal-length}
 use Rattle.text.proofs.PutLaws.{put-then}
-use Rattle.imaging.specs.Shown.{numberLine}
+use Rattle.imaging.specs.Shown.{numberLine, numberRecord}
 use native.Mathlib.Omega.{arith}
 use borrow.Author.Needs.{needs}
 use Rattle.imaging.proofs.show.put_number_line.Statement.{statement}
@@ -27,7 +27,7 @@ same-length : tie.Need-same-length
 same-length c = search needs
 
 returns : tie.Need-returns
-unfolding numberLine
+unfolding numberLine numberRecord
 returns c =
     let p = c .before .before .before .before .before .before .before .before .before .before .before .put .ensures in
     let q = c .before .before .before .before .before .before .before .put-decimal .ensures in

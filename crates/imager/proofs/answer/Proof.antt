@@ -1,11 +1,11 @@
--- `imager::refuse` meets its contract: the line lies within the buffer.
+-- `imager::answer` meets its contract: the line lies within the buffer.
 -- Assumes nothing.
 use mathlib.Core.Path.{sym}
 use lib.Seq.{length-take-le}
 use native.Mathlib.Omega.{arith}
 use borrow.Author.Needs.{needs}
-use Rattle.imager.proofs.refuse.Statement.{statement}
-use Rattle.imager.proofs.refuse.Tie as tie
+use Rattle.imager.proofs.answer.Statement.{statement}
+use Rattle.imager.proofs.answer.Tie as tie
 
 slice-aggregate-put-answer-line : tie.Need-slice-aggregate-put-answer-line
 slice-aggregate-put-answer-line c = search needs
@@ -25,8 +25,8 @@ write-all-requires c κs = search needs
 returns : tie.Need-returns
 returns c = search needs
 
-pub refuse-spec : {M : Type 1} → statement M
-refuse-spec =
+pub answer-spec : {M : Type 1} → statement M
+answer-spec =
     tie.close
     (tie.spec
     slice-aggregate-put-answer-line
