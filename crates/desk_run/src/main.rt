@@ -1,4 +1,5 @@
 // Runs the calls on the ends of their ranges and prints what they answer, a line each: what was done, then the kind and the payload.
+use crate::runs::runs;
 use cells::Cell;
 use cells::Change;
 use cells::joining::add_to;
@@ -11,7 +12,6 @@ use cells::signed::bits_of_i64;
 use cells::signed::i64_of_bits;
 use cells::stored::cell_kind;
 use cells::stored::change_words_ok;
-use crate::runs::runs;
 
 mod runs;
 
