@@ -1,109 +1,101 @@
 -- What the end of a connection makes of a record. Assumes nothing.
-use mathlib.Core.Path.{_≡_, refl, sym, ap, _∙_}
+use mathlib.Core.Path.{_≡_, refl, sym, ap, _∙_, subst}
+use mathlib.Core.Bool.{Bool, true, false}
 use mathlib.Core.List.{List, []}
 use Prim.Native.Nat.{ℕ, zero, suc, _≤_, _<_}
 use native.Mathlib.Omega.{arith}
-use lib.ListN.{length, getD, set, length-set}
+use lib.ListN.{length, getD, set, drop, length-set}
 use Rattle.protocol.specs.declared.Refusal.the-variants.{NoConnection}
-use Rattle.protocol.specs.Machine.{Link, choose, isStale, withLink, cutOff, serverdrop·at}
+use Rattle.protocol.specs.Machine.{Device, Round, choose, isHeld, unheld, isStale, withLink, cutOff, serverdrop·at}
 use Rattle.sheet.specs.Sheet.{sheet}
 use Rattle.sheet.specs.declared.Answer.{Answer}
 use Rattle.sheet.specs.declared.Answer.the-variants.{Done, Refused}
-use Rattle.words.specs.Layout.{STALE, LAST, TAKEN, CHANNEL, REQUEST, CONNECTION, COVERED, PENDING·LENGTH, WAITING·LENGTH, ITEMS·LENGTH, WAITING, RECORD}
+use Rattle.words.specs.Layout.{TAKEN, REQUEST, CONNECTION, WAITING·LENGTH, WAITING, ITEMS·LENGTH, ITEMS, RECORD}
 use Rattle.words.proofs.Places.{set-kept, set-new}
 use Rattle.record.specs.Reading.{channelOf, connectionOf, requestOf, linkOf, deviceOf}
 use Rattle.record.specs.Valid.{IsRecord}
-use Rattle.record.proofs.Meanings.{empty-queue}
+use Rattle.record.proofs.Queues.{queue-length}
 use Rattle.device.specs.Did.{Did}
-use Rattle.device.specs.Parts.{QueueIs, roundEntry}
-use Rattle.device.proofs.Parts.{Parts, did-parts, past-singles, last-stays, covered-stays, known-stays, transaction-stays, buffered-stays, received-stays, pending-stays, waiting-stays, items-stay}
+use Rattle.device.specs.Parts.{Requeued, roundEntry, itemEntry}
+use Rattle.device.proofs.Entries.{round-local, item-local, queue-kept, requeued-outside}
+use Rattle.device.proofs.Parts.{WordsAre, parts-of}
 use Rattle.device.proofs.Steps.{told, did-as}
 use Rattle.server.specs.Ends.{end·at}
+use Rattle.server.specs.Gather.{firstWaiting}
+use Rattle.server.specs.Turn.{Turned}
+use Rattle.server.specs.Waiting.{gone, HasWaiting}
+use Rattle.server.proofs.Goes.{gone-few, left-is}
+use Rattle.server.proofs.Links.{Chain, requeued-same, channel-kept, link-turned}
 
-module _ (devices cells : ℕ) (xs : List ℕ) (request : ℕ) (R : IsRecord devices cells xs) (q : request ≤ 1) where
-  y1 : List ℕ
-  y1 = set xs REQUEST request
+-- y has the rounds of a stale connection gone, `end` no connection.
+module _ (devices cells : ℕ) (xs : List ℕ) (request k : ℕ) (R : IsRecord devices cells xs) (q : request ≤ 1) (goes : k ≡ gone 0 (getD xs CONNECTION 0) (getD xs WAITING·LENGTH 0) true) where
+  pub some-go : HasWaiting cells k xs
+  some-go = record { size = R .valid .size; few-cells = R .few-cells; few = R .valid .few-waiting; some-left = rw goes (gone-few 0 (getD xs CONNECTION 0) (getD xs WAITING·LENGTH 0) true); rounds = R .valid .waiting }
 
-  y2 : List ℕ
-  y2 = set y1 CONNECTION 0
+  module _ (y : List ℕ) (len : length y ≡ RECORD) (Q : Requeued (roundEntry cells) xs y WAITING·LENGTH WAITING (drop k (firstWaiting cells (getD xs WAITING·LENGTH 0) xs))) where
+    end : List ℕ
+    end = set (set y REQUEST request) CONNECTION 0
 
-  after : Link sheet
-  after = cutOff sheet (requestOf request) (deviceOf devices cells xs .link)
+    x : Device sheet
+    x = deviceOf devices cells xs
 
-  -- the last store, if there is one, is to the length of the waiting rounds
-  module _ (end : List ℕ) (last-store : (i : ℕ) → (i ≡ WAITING·LENGTH → ⊥) → getD end i 0 ≡ getD y2 i 0) (len : length end ≡ RECORD) where
-    keep : (i : ℕ) → (i ≡ REQUEST → ⊥) → (i ≡ CONNECTION → ⊥) → (i ≡ WAITING·LENGTH → ⊥) → getD end i 0 ≡ getD xs i 0
-    unfolding y2 y1
-    keep i a b c = last-store i c ∙ set-kept y1 CONNECTION 0 i b ∙ set-kept xs REQUEST request i a
+    outside : (i : ℕ) → (i ≡ WAITING·LENGTH → ⊥) → (WAITING ≤ i → i < ITEMS → ⊥) → getD y i 0 ≡ getD xs i 0
+    outside i a b = requeued-outside (roundEntry cells) (round-local cells (R .few-cells)) xs y WAITING·LENGTH WAITING _ Q i a (λ p r. b p (omega arith))
 
-    single : (i : ℕ) → (i < REQUEST) → getD end i 0 ≡ getD xs i 0
-    single i h = keep i (λ e. omega arith) (λ e. omega arith) (λ e. omega arith)
+    left : List (Round sheet)
+    left = drop k (firstWaiting cells (getD xs WAITING·LENGTH 0) xs)
 
-    behind : (i : ℕ) → WAITING·LENGTH < i → getD end i 0 ≡ getD xs i 0
-    behind i h = keep i (λ e. omega arith) (λ e. omega arith) (λ e. omega arith)
+    chain : Chain devices cells xs xs y y end left (x .link .items)
+    unfolding end left x
+    chain = record {
+      sound = record { few-devices = R .few-devices; few-cells = R .few-cells; valid = R .valid };
+      numbered = λ i n. refl;
+      waits = Q;
+      stands = requeued-same (itemEntry devices cells) y ITEMS·LENGTH ITEMS _ (queue-kept (itemEntry devices cells) (item-local devices cells (R .few-devices) (R .few-cells)) xs y ITEMS·LENGTH ITEMS _ (outside ITEMS·LENGTH (λ e. omega arith) (λ p r. omega arith)) (λ i p r. outside i (λ e. omega arith) (λ u v. omega arith)) (parts-of devices cells xs (R .valid) .items));
+      ends = λ i a b. set-kept (set y REQUEST request) CONNECTION 0 i b ∙ set-kept y REQUEST request i a;
+      size = simp length-set len;
+    }
 
-    request-is : getD end REQUEST 0 ≡ request
-    unfolding y2 y1
-    request-is = last-store REQUEST (λ e. omega arith) ∙ set-kept y1 CONNECTION 0 REQUEST (λ e. omega arith) ∙ set-new xs REQUEST request (omega (arith, R .valid .size))
+    words : WordsAre end (x .link .channel) (requestOf request) unheld
+    words =
+        let c = channel-kept devices cells xs xs y y end _ _ chain in
+        let r : getD end REQUEST 0 ≡ request = unfold end in (set-kept (set y REQUEST request) CONNECTION 0 REQUEST (λ e. omega arith) ∙ set-new y REQUEST request (omega arith)) in
+        let n : getD end CONNECTION 0 ≡ 0 = unfold end in (set-new (set y REQUEST request) CONNECTION 0 (simp length-set (omega arith))) in
+        record {
+          channel = unfold x deviceOf linkOf in (ap channelOf c);
+          request = ap requestOf r;
+          connection = ap connectionOf n;
+          channel-fits = rw c (R .valid .channel);
+          request-fits = rw r q;
+          connection-fits = rw n (omega arith);
+        }
 
-    connection-is : getD end CONNECTION 0 ≡ 0
-    unfolding y2 y1
-    connection-is = last-store CONNECTION (λ e. omega arith) ∙ set-new y1 CONNECTION 0 (simp length-set (omega (arith, R .valid .size)))
+    -- those of a stale connection are gone, others stay
+    left-so : left ≡ choose (isStale (x .link .connection)) [] (x .link .waiting)
+    unfolding left x deviceOf linkOf
+    left-so =
+        (λ i. drop (goes i) (firstWaiting cells (getD xs WAITING·LENGTH 0) xs))
+        ∙ ap (λ (n : ℕ). drop (gone 0 (getD xs CONNECTION 0) n true) (firstWaiting cells (getD xs WAITING·LENGTH 0) xs)) (sym (queue-length (getD xs WAITING·LENGTH 0) _))
+        ∙ left-is true (getD xs CONNECTION 0) 0 (firstWaiting cells (getD xs WAITING·LENGTH 0) xs)
+        ∙ ap (λ (n : ℕ). choose (isStale (connectionOf (getD xs CONNECTION 0))) [] (drop n (firstWaiting cells (getD xs WAITING·LENGTH 0) xs))) (zero-of (isHeld (connectionOf (getD xs CONNECTION 0))))
+      where
+        zero-of : (b : Bool) → choose {A = ℕ} b 0 0 ≡ 0
+        zero-of true = refl
+        zero-of false = refl
 
-    module _ (Q : QueueIs (roundEntry cells) end WAITING·LENGTH WAITING (after .waiting)) where
-      parts : Parts devices cells end (withLink sheet (deviceOf devices cells xs) after)
-      unfolding after
-      parts = record {
-        size = len;
-        last = last-stays devices cells xs end R (single LAST (omega arith));
-        covered = covered-stays devices cells xs end R (keep COVERED (λ e. omega arith) (λ e. omega arith) (λ e. omega arith));
-        words = record { channel = channel-same; request = ap requestOf request-is; connection = ap connectionOf connection-is; channel-fits = rw (single CHANNEL (omega arith)) (R .valid .channel); request-fits = rw request-is q; connection-fits = rw connection-is (omega arith) };
-        known = known-stays devices cells xs end R (λ i p q. behind i (omega arith));
-        transaction = transaction-stays devices cells xs end R (λ i p q. behind i (omega arith));
-        buffered = buffered-stays devices cells xs end R (λ i p q. behind i (omega arith));
-        received = received-stays devices cells xs end R (λ i p q. behind i (omega arith));
-        pending = pending-stays devices cells xs end R (keep PENDING·LENGTH (λ e. omega arith) (λ e. omega arith) (λ e. omega arith)) (λ i p q. behind i (omega arith));
-        waiting = Q;
-        items = items-stay devices cells xs end R (behind ITEMS·LENGTH (omega arith)) (λ i p q. behind i (omega arith));
-      }
-        where
-          channel-same : channelOf (getD end CHANNEL 0) ≡ deviceOf devices cells xs .link .channel
-          channel-same = unfold deviceOf linkOf in (ap channelOf (single CHANNEL (omega arith)))
+    turned : Turned devices cells (withLink sheet x (cutOff sheet (requestOf request) (x .link))) (getD xs TAKEN 0) xs end
+    turned =
+        subst (λ (w : List (Round sheet)). Turned devices cells (withLink sheet x record { channel = x .link .channel; request = requestOf request; connection = unheld; waiting = w; items = x .link .items }) (getD xs TAKEN 0) xs end) left-so
+        (unfold x in (link-turned devices cells xs xs y y end left _ chain _ _ _ words (getD xs TAKEN 0) taken-kept))
+      where
+        from-y : getD end TAKEN 0 ≡ getD y TAKEN 0
+        from-y = unfold end in (set-kept (set y REQUEST request) CONNECTION 0 TAKEN (λ e. omega arith) ∙ set-kept y REQUEST request TAKEN (λ e. omega arith))
 
-      ended-so : Did devices cells (end·at (requestOf request)) xs Done end
-      ended-so =
-          did-parts devices cells (end·at (requestOf request)) xs end (withLink sheet (deviceOf devices cells xs) after) (unfold after in refl) parts
-          (single TAKEN (omega arith)) (λ i n. let k = past-singles devices cells end i n in behind i (omega arith))
+        taken-kept : getD end TAKEN 0 ≡ getD xs TAKEN 0
+        taken-kept = from-y ∙ outside TAKEN (λ e. omega arith) (λ p r. omega arith)
 
-  size-is : length y2 ≡ RECORD
-  unfolding y2 y1
-  size-is = simp length-set (R .valid .size)
-
-  waiting-after : after .waiting ≡ choose (isStale (connectionOf (getD xs CONNECTION 0))) [] (deviceOf devices cells xs .link .waiting)
-  waiting-after = unfold after deviceOf linkOf in refl
-
-  pub ended-stale : getD xs CONNECTION 0 ≡ STALE → Did devices cells (end·at (requestOf request)) xs Done (set (set (set xs REQUEST request) CONNECTION 0) WAITING·LENGTH 0)
-  ended-stale e = unfold y2 y1 in did
-    where
-      did : Did devices cells (end·at (requestOf request)) xs Done (set y2 WAITING·LENGTH 0)
-      did =
-          let z = set-new y2 WAITING·LENGTH 0 (omega (arith, size-is)) in
-          ended-so (set y2 WAITING·LENGTH 0) (λ i n. set-kept y2 WAITING·LENGTH 0 i n) (simp length-set size-is)
-          record { is = empty-queue _ _ z ∙ sym (waiting-after ∙ ap (λ (k : ℕ). choose (isStale (connectionOf k)) [] (deviceOf devices cells xs .link .waiting)) e); few = rw z (omega arith); valid = λ j l. absurd (omega (arith, z)) }
-
-  pub ended-other : (getD xs CONNECTION 0 ≡ STALE → ⊥) → Did devices cells (end·at (requestOf request)) xs Done (set (set xs REQUEST request) CONNECTION 0)
-  ended-other n = unfold y2 y1 in did
-    where
-      keeps : (k : ℕ) → k ≤ STALE → (k ≡ STALE → ⊥) → choose (isStale (connectionOf k)) [] (deviceOf devices cells xs .link .waiting) ≡ deviceOf devices cells xs .link .waiting
-      keeps zero h m = refl
-      keeps (suc zero) h m = refl
-      keeps (suc (suc k)) h m = absurd (m (omega arith))
-
-      same : (i : ℕ) → CONNECTION < i → getD y2 i 0 ≡ getD xs i 0
-      same i l = unfold y2 y1 in (set-kept (set xs REQUEST request) CONNECTION 0 i (λ e. omega arith) ∙ set-kept xs REQUEST request i (λ e. omega arith))
-
-      did : Did devices cells (end·at (requestOf request)) xs Done y2
-      did = ended-so y2 (λ i m. refl) size-is (rw (waiting-after ∙ keeps (getD xs CONNECTION 0) (R .valid .connection) n) (waiting-stays devices cells xs y2 R (same WAITING·LENGTH (omega arith)) (λ i p q. same i (omega arith))))
+    pub ended-so : Did devices cells (end·at (requestOf request)) xs Done (set (set y REQUEST request) CONNECTION 0)
+    ended-so = unfold end x in (record { answer = refl; after = turned .says; taken = turned .taken; valid = turned .valid; kept = turned .kept })
 
 -- serverdrop: nothing to end, or the end with the request as it stands.
 module _ (devices cells : ℕ) (xs : List ℕ) where

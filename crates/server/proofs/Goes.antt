@@ -20,7 +20,8 @@ use Rattle.device.specs.Parts.{Movable, Moved, Requeued, roundEntry, itemEntry}
 use Rattle.device.proofs.Entries.{round-local, queue-moved}
 use Rattle.server.specs.Deliver.{Deliverable}
 use Rattle.server.specs.Gather.{firstWaiting}
-use Rattle.server.specs.Settle.{gone, NumberTaken, HasWaiting, HungUp}
+use Rattle.server.specs.Settle.{NumberTaken, HungUp}
+use Rattle.server.specs.Waiting.{gone, HasWaiting}
 use Rattle.server.proofs.Links.{requeued-same}
 
 -- How many rounds go.

@@ -16,7 +16,8 @@ use Rattle.device.proofs.Entries.{round-local, item-local, queue-kept, requeued
 use Rattle.device.proofs.Parts.{WordsAre, Parts, parts-of}
 use Rattle.server.specs.Deliver.{Deliverable}
 use Rattle.server.specs.Gather.{firstWaiting}
-use Rattle.server.specs.Settle.{gone, NumberTaken, HasWaiting, HungUp, Settling, settled, Settled}
+use Rattle.server.specs.Settle.{NumberTaken, HungUp, Settling, settled, Settled}
+use Rattle.server.specs.Waiting.{gone, HasWaiting}
 use Rattle.server.specs.Turn.{Turned}
 use Rattle.server.proofs.Goes.{gone-few, left-is}
 use Rattle.server.proofs.Links.{Chain, channel-kept, link-turned}

@@ -4,5 +4,6 @@ pub mod Gather
 pub mod Prefix
 pub mod Deliver
 pub mod Accept
+pub mod Waiting
 pub mod Settle
 pub mod Batch

@@ -1,35 +1,22 @@
 -- "It applies them, sets the numbers, and puts one segment on every connection that is not stale"; "cut is a stop after a batch is stored: as
 -- batch, but segments reach only devices numbered below j, then as crash": what both come to on one device. Assumes nothing.
 use mathlib.Core.Path.{_≡_}
-use mathlib.Core.Bool.{Bool, _&&_}
+use mathlib.Core.Bool.{Bool}
 use mathlib.Core.List.{List}
-use Prim.Native.Nat.{ℕ, _+_, _*_, _≤_, _<_, min}
-use lib.ListN.{length, getD}
-use Rattle.protocol.specs.Machine.{Device, Item, choose, given, isHeld, isStale, batched·at}
+use Prim.Native.Nat.{ℕ, _+_, _<_}
+use lib.ListN.{getD}
+use Rattle.protocol.specs.Machine.{Device, Item, choose, given, isHeld, batched·at}
 use Rattle.sheet.specs.Sheet.{sheet}
-use Rattle.words.specs.Layout.{QUEUE, ROUND, ROUND·CHANGES, ITEM·KIND, ITEM·NUMBERS, SEGMENT, TAKEN, REQUEST, CONNECTION, WAITING, WAITING·LENGTH, RECORD}
-use Rattle.words.specs.Place.{changePlace, Valid}
-use Rattle.record.specs.Reading.{givenBy, connectionOf, itemAt, deviceOf}
+use Rattle.words.specs.Layout.{ITEM·KIND, ITEM·NUMBERS, SEGMENT, TAKEN, REQUEST, CONNECTION}
+use Rattle.record.specs.Reading.{givenBy, itemAt, deviceOf}
 use Rattle.server.specs.Deliver.{ItemReady}
 use Rattle.server.specs.Ends.{ended}
 use Rattle.server.specs.Turn.{Sound, Turned}
-
--- The rounds that go from a connection: those that are taken, and with a crash all that wait on a stale one.
-abbrev pub gone : (count connection waiting : ℕ) → Bool → ℕ
-gone count connection waiting crash = choose (crash && isStale (connectionOf connection)) waiting (min (choose (isHeld (connectionOf connection)) count 0) waiting)
 
 -- "sets the numbers": the number that a word of a segment gives is taken now.
 pub record NumberTaken (word : ℕ) (xs ys : List ℕ) : Type 0 where
   pub taken : getD ys TAKEN 0 ≡ given (givenBy word) (getD xs TAKEN 0)
   pub others : (i : ℕ) → (i ≡ TAKEN → ⊥) → getD ys i 0 ≡ getD xs i 0
-
--- A record whose first k waiting rounds can go.
-pub record HasWaiting (cells k : ℕ) (xs : List ℕ) : Type 0 where
-  pub size : length xs ≡ RECORD
-  pub few-cells : cells ≤ 64
-  pub few : getD xs WAITING·LENGTH 0 ≤ QUEUE
-  pub some-left : k ≤ getD xs WAITING·LENGTH 0
-  pub rounds : (j : ℕ) → j < getD xs WAITING·LENGTH 0 → Valid changePlace xs (WAITING + ROUND * j + ROUND·CHANGES) cells
 
 -- A record that a batch can settle with the segment ss.
 pub record Settling (devices cells d : ℕ) (xs ss : List ℕ) : Type 0 where

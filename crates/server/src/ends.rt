@@ -8,13 +8,14 @@ ghost use Rattle.device.specs.Did.{Did};
 ghost use Rattle.table.specs.Promise.{Each};
 ghost use Rattle.server.specs.Ends.{end·at, Ended};
 ghost use Rattle.server.specs.Gather.{TableReady};
+use crate::waiting::drop_waiting;
+use crate::waiting::going;
 use protocol::Refusal;
 use sheet::Answer;
 use words::layout::CONNECTION;
 use words::layout::RECORD;
 use words::layout::RECORDS;
 use words::layout::REQUEST;
-use words::layout::STALE;
 use words::layout::WAITING_LENGTH;
 
 // No connection is held now. Rounds on a stale one are gone with it, the device's own channel keeps what waits on it.
@@ -22,12 +23,10 @@ pub fn end_connection(r: &mut [u64], devices: usize, cells: usize, request: u64)
     requires { ⌜ IsRecord devices cells (now r) × (request ≤ 1) ⌝ }
     ensures { λ a. ⌜ Did devices cells (end·at (requestOf request)) (now (r .entry)) a (now (r .exit)) ⌝ }
 {
-    let connection = r[CONNECTION];
+    let k = going(0, r[CONNECTION], r[WAITING_LENGTH], true);
+    drop_waiting(r, k as usize, cells);
     r[REQUEST] = request;
     r[CONNECTION] = 0;
-    if connection == STALE {
-        r[WAITING_LENGTH] = 0;
-    }
     Answer::Done
 }
 

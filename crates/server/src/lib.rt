@@ -7,3 +7,4 @@ mod ends;
 pub mod gather;
 pub mod prefix;
 mod settle;
+mod waiting;

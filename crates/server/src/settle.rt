@@ -1,49 +1,30 @@
 // What a batch or a cut does to each device's record once its segment is made.
 ghost use mathlib.Core.Path.{_≡_};
 ghost use mathlib.Core.Bool.{_&&_};
-ghost use Prim.Native.Nat.{_≤_};
 ghost use lib.Dec.{ltb};
-ghost use lib.ListN.{length, getD, drop};
+ghost use lib.ListN.{length, getD};
 ghost use Rattle.protocol.specs.Machine.{choose, isLive, joinItem, enqueue};
 ghost use Rattle.sheet.specs.Sheet.{sheet};
-ghost use Rattle.words.specs.Layout.{CONNECTION, ITEM·KIND, ITEMS, ITEMS·LENGTH, RECORD, SEGMENT, STALE, WAITING, WAITING·LENGTH};
+ghost use Rattle.words.specs.Layout.{CONNECTION, ITEM·KIND, ITEMS, ITEMS·LENGTH, RECORD, SEGMENT};
 ghost use Rattle.record.specs.Reading.{connectionOf, itemAt};
 ghost use Rattle.device.specs.Items.{itemsOf};
-ghost use Rattle.device.specs.Parts.{roundEntry, itemEntry, Requeued};
+ghost use Rattle.device.specs.Parts.{itemEntry, Requeued};
 ghost use Rattle.table.specs.Promise.{Each};
 ghost use Rattle.server.specs.Deliver.{Deliverable, ItemReady};
-ghost use Rattle.server.specs.Gather.{firstWaiting};
-ghost use Rattle.server.specs.Settle.{gone, NumberTaken, HasWaiting, HungUp, Settling, Settled};
+ghost use Rattle.server.specs.Settle.{NumberTaken, HungUp, Settling, Settled};
 ghost use Rattle.server.specs.Turn.{AllSound};
 use crate::deliver::deliver;
 use crate::gather::count_of;
-use crate::gather::share;
-use device::round::move_rounds;
+use crate::waiting::drop_waiting;
+use crate::waiting::going;
 use words::layout::CONNECTION;
 use words::layout::ITEM_NUMBERS;
 use words::layout::LIVE;
 use words::layout::RECORD;
 use words::layout::RECORDS;
 use words::layout::REQUEST;
-use words::layout::ROUND;
-use words::layout::STALE;
 use words::layout::TAKEN;
-use words::layout::WAITING;
 use words::layout::WAITING_LENGTH;
-
-// How many waiting rounds go. A crash ends a stale connection, and all that waits on it is gone.
-fn going(count: u64, connection: u64, waiting: u64, crash: bool) -> u64
-    requires { ⌜ connection ≤ STALE ⌝ }
-    ensures { λ r. ⌜ r ≡ gone count connection waiting crash ⌝ }
-{
-    if !crash {
-        return share(count, connection, waiting);
-    }
-    if connection == STALE {
-        return waiting;
-    }
-    share(count, connection, waiting)
-}
 
 // The number of the last round taken is in the segment, as number + 1; 0 where none was.
 fn take_number(r: &mut [u64], word: u64)
@@ -54,19 +35,6 @@ fn take_number(r: &mut [u64], word: u64)
         return;
     }
     r[TAKEN] = word - 1;
-}
-
-// Removes the first k waiting rounds.
-fn drop_waiting(r: &mut [u64], k: usize, cells: usize)
-    requires { ⌜ HasWaiting cells k (now r) ⌝ }
-    ensures { λ _. ⌜ Requeued (roundEntry cells) (now (r .entry)) (now (r .exit)) WAITING·LENGTH WAITING (drop k (firstWaiting cells (getD (now (r .entry)) WAITING·LENGTH 0) (now (r .entry)))) ⌝ }
-{
-    if k == 0 {
-        return;
-    }
-    let left = r[WAITING_LENGTH] as usize - k;
-    move_rounds(r, WAITING + ROUND * k, WAITING, left, cells);
-    r[WAITING_LENGTH] = left as u64;
 }
 
 // "puts one segment on every connection that is not stale", as far as it reaches.

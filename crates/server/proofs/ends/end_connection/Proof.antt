@@ -1,45 +1,45 @@
--- `server::ends::end_connection` meets its contract: what it makes of the record is the law's.
+-- `server::ends::end_connection` meets its contract: the rounds of a stale connection go, then two words are stored.
 -- Assumes nothing.
 use lib.ListN.{length-set}
-use Rattle.server.proofs.EndLaws.{ended-stale, ended-other}
 use native.Mathlib.Omega.{arith}
+use Rattle.server.proofs.EndLaws.{some-go, ended-so}
 use borrow.Author.Needs.{needs}
 use Rattle.server.proofs.ends.end_connection.Statement.{statement}
 use Rattle.server.proofs.ends.end_connection.Tie as tie
 
-slice-read-connection : tie.Need-slice-read-connection
-slice-read-connection c = search needs
+slice-read-going : tie.Need-slice-read-going
+slice-read-going c = search needs
+
+slice-read-going-2 : tie.Need-slice-read-going-2
+slice-read-going-2 c = search needs
+
+going-requires : tie.Need-going-requires
+going-requires c κs = search needs
+
+drop-waiting-requires : tie.Need-drop-waiting-requires
+drop-waiting-requires c κs = some-go _ _ _ (c .before .before .before .before .before .args .request) _ (c .before .before .before .before .before .pre .0) (c .before .before .before .before .before .pre .1) (c .before .going .ensures)
 
 slice-write-r : tie.Need-slice-write-r
 slice-write-r c = search needs
 
 slice-write-r-2 : tie.Need-slice-write-r-2
-slice-write-r-2 c = search needs
-
-slice-write-r-3 : tie.Need-slice-write-r-3
-slice-write-r-3 c = simp length-set (omega (arith, c .before .before .pre .0 .valid .size))
+slice-write-r-2 c = simp length-set (omega (arith, c .before .before .before .before .before .before .before .before .pre .0 .valid .size, c .before .before .drop-waiting .kept .0))
 
 same-length : tie.Need-same-length
 same-length c = search needs
 
 returns : tie.Need-returns
-returns c = let p = c .before .before .pre in ended-stale _ _ _ _ (p .0) (p .1) (c .if1 .taken)
-
-same-length-2 : tie.Need-same-length-2
-same-length-2 c = search needs
-
-returns-2 : tie.Need-returns-2
-returns-2 c = let p = c .before .before .pre in ended-other _ _ _ _ (p .0) (p .1) (c .if1 .left)
+returns c = ended-so _ _ _ _ _ (c .before .before .before .before .before .before .before .before .pre .0) (c .before .before .before .before .before .before .before .before .pre .1) (c .before .before .before .before .going .ensures) _ (omega (arith, c .before .before .before .before .before .before .before .before .pre .0 .valid .size, c .before .before .drop-waiting .kept .0)) (c .before .before .drop-waiting .ensures)
 
 pub end-connection-spec : {M : Type 1} → statement M
 end-connection-spec =
     tie.close
     (tie.spec
-    slice-read-connection
+    slice-read-going
+    slice-read-going-2
+    going-requires
+    drop-waiting-requires
     slice-write-r
     slice-write-r-2
-    slice-write-r-3
     same-length
-    returns
-    same-length-2
-    returns-2)
+    returns)

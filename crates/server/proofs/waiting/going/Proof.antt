@@ -1,10 +1,10 @@
--- `server::settle::going` meets its contract: with a crash all of a stale connection go, else what is taken.
+-- `server::waiting::going` meets its contract: with a crash all of a stale connection go, else what is taken.
 -- Assumes nothing.
 use Rattle.server.proofs.Goes.{all-go, none-crashes, not-stale}
 use borrow.Author.Tests.{not-true, not-false}
 use borrow.Author.Needs.{needs}
-use Rattle.server.proofs.settle.going.Statement.{statement}
-use Rattle.server.proofs.settle.going.Tie as tie
+use Rattle.server.proofs.waiting.going.Statement.{statement}
+use Rattle.server.proofs.waiting.going.Tie as tie
 
 share-requires : tie.Need-share-requires
 share-requires c κs = search needs

@@ -1,10 +1,10 @@
--- `server::settle::drop_waiting` meets its contract: nothing goes, or the rounds behind move up.
+-- `server::waiting::drop_waiting` meets its contract: nothing goes, or the rounds behind move up.
 -- Assumes nothing.
 use native.Mathlib.Omega.{arith}
 use Rattle.server.proofs.Goes.{waiting-movable, waiting-dropped, none-dropped}
 use borrow.Author.Needs.{needs}
-use Rattle.server.proofs.settle.drop_waiting.Statement.{statement}
-use Rattle.server.proofs.settle.drop_waiting.Tie as tie
+use Rattle.server.proofs.waiting.drop_waiting.Statement.{statement}
+use Rattle.server.proofs.waiting.drop_waiting.Tie as tie
 
 returns : tie.Need-returns
 returns c = none-dropped _ _ _ (c .before .before .pre) (c .if1 .taken)
