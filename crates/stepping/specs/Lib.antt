@@ -1,0 +1,5 @@
+pub mod Program
+pub mod Answered
+pub mod Bytes
+pub mod Claims
+pub mod CaseS
