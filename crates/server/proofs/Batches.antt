@@ -27,10 +27,11 @@ use Rattle.table.specs.Promise.{Became, Each}
 use Rattle.table.proofs.Part.{record-same}
 use Rattle.table.proofs.Tables.{device-at, taken-at, record-of}
 use Rattle.server.specs.Batch.{tableBatched, Took}
-use Rattle.server.specs.Deliver.{ItemReady}
+use Rattle.link.specs.Deliver.{ItemReady}
 use Rattle.server.specs.Gather.{TableReady, Gathered}
-use Rattle.server.specs.Settle.{settled, Settled}
-use Rattle.server.specs.Turn.{Turned, Sound, AllSound}
+use Rattle.link.specs.Settle.{settled, Settled}
+use Rattle.link.specs.Turn.{Turned, Sound}
+use Rattle.server.specs.Turn.{AllSound}
 use Rattle.server.proofs.Turns.{all-turned}
 
 -- Every device settled is the table after a batch or a cut.

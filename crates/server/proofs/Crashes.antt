@@ -17,7 +17,7 @@ use Rattle.table.specs.Table.{recordAt, reading, IsTable}
 use Rattle.table.specs.Promise.{Each, Stepped}
 use Rattle.table.proofs.Each.{each-ahead}
 use Rattle.table.proofs.Tables.{record-of}
-use Rattle.server.specs.Ends.{ended, Ended}
+use Rattle.link.specs.Ends.{ended, Ended}
 use Rattle.server.specs.Gather.{TableReady}
 use Rattle.server.proofs.Turns.{all-turned, server-sheet}
 

@@ -23,7 +23,8 @@ use Rattle.record.proofs.Loops.{cleared}
 use Rattle.record.proofs.Conditions.{is-singles, is-lengths, are-pending, are-waiting}
 use Rattle.table.specs.Table.{reading, recordAt}
 use Rattle.table.proofs.Tables.{device-at, record-of}
-use Rattle.server.specs.Gather.{roundsOf, RecordReady, GatheredOne, TableReady, SegmentReady, Gathered}
+use Rattle.link.specs.Gather.{roundsOf, RecordReady, GatheredOne}
+use Rattle.server.specs.Gather.{TableReady, SegmentReady, Gathered}
 
 -- The rounds of a device are those of its record.
 pub rounds-at : (xs counts : List ℕ) (d : ℕ) → d < getD xs DEVICES 0 → roundsAt sheet (reading xs) counts d ≡ roundsOf (getD xs CELLS 0) (getD counts d 0) (recordAt xs d)

@@ -1,13 +1,7 @@
-pub mod Gathers
 pub mod GatherAll
 pub mod Prefixes
-pub mod Links
-pub mod Goes
-pub mod EndLaws
 pub mod Turns
-pub mod Delivers
 pub mod Crashes
 pub mod Accepts
-pub mod Settles
 pub mod Batches
 pub mod Moves

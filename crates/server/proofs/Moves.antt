@@ -14,7 +14,7 @@ use Rattle.words.specs.Layout.{DEVICES, CELLS}
 use Rattle.table.specs.Table.{reading, IsTable}
 use Rattle.table.specs.Promise.{Became, Each, Stepped}
 use Rattle.server.specs.Batch.{Took}
-use Rattle.server.specs.Ends.{Ended}
+use Rattle.link.specs.Ends.{Ended}
 use Rattle.server.specs.Gather.{TableReady}
 use Rattle.server.proofs.Crashes.{crashed}
 

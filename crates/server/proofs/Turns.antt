@@ -7,27 +7,22 @@ use native.Mathlib.Omega.{arith}
 use lib.ListN.{length, getD}
 use Rattle.cells.specs.declared.Cell.{Cell}
 use Rattle.cells.specs.declared.Cell.the-variants.{Blank}
-use Rattle.protocol.specs.Machine.{Table, Device, Local, fine, freshDevice}
+use Rattle.protocol.specs.Machine.{Table, Device, freshDevice}
 use Rattle.sheet.specs.Sheet.{sheet}
-use Rattle.sheet.specs.declared.Answer.{Answer}
 use Rattle.words.specs.Layout.{CELL, TAKEN, SHEET, DEVICES, CELLS, RECORD, RECORDS}
 use Rattle.words.specs.Place.{cellPlace, Kept}
 use Rattle.words.proofs.Places.{lt-or-ge, cell-local}
 use Rattle.record.specs.Reading.{below, sheetAt, deviceOf}
 use Rattle.record.specs.Valid.{InUse}
 use Rattle.record.proofs.Same.{below-same}
-use Rattle.device.specs.Did.{Did, deviceAfter}
 use Rattle.device.specs.Parts.{PlacesAre}
 use Rattle.device.proofs.Parts.{places-kept}
 use Rattle.table.specs.Table.{recordAt, reading, InTable, ValidTable}
 use Rattle.table.specs.Promise.{Became, Each}
 use Rattle.table.proofs.Each.{each-ahead}
 use Rattle.table.proofs.Part.{record-word}
-use Rattle.server.specs.Turn.{Turned, Sound, AllSound}
-
--- A step that is done turns its record.
-pub did-turned : (devices cells : ℕ) (f : Device sheet → Local sheet) (xs ys : List ℕ) (a : Answer) (y : Device sheet) → f (deviceOf devices cells xs) ≡ fine y → Did devices cells f xs a ys → Turned devices cells y (getD xs TAKEN 0) xs ys
-did-turned devices cells f xs ys a y e D = record { says = D .after ∙ ap (deviceAfter (deviceOf devices cells xs)) e; taken = D .taken; valid = D .valid; kept = D .kept }
+use Rattle.link.specs.Turn.{Turned, Sound}
+use Rattle.server.specs.Turn.{AllSound}
 
 -- The table xs, whose server's sheet is s in mid, and all of whose records the server then turned.
 module _ (xs mid ys : List ℕ) (X : ValidTable xs) (l : length ys ≡ length xs) (s : ℕ → Cell) (S : PlacesAre cellPlace Blank (getD xs CELLS 0) mid SHEET s) (K : Kept xs mid SHEET (CELL * getD xs CELLS 0)) (g : ℕ → Device sheet) (h : ℕ → ℕ) (E : Each (λ d. Turned (getD xs DEVICES 0) (getD xs CELLS 0) (g d) (h d)) mid ys (getD xs DEVICES 0)) where

@@ -1,10 +1,7 @@
-// The server and the link on the lent table.
-mod accept;
+// The server and the links on the lent table.
 mod batch;
 pub mod calls;
-mod deliver;
 mod ends;
 mod gather;
 mod prefix;
 mod settle;
-mod waiting;

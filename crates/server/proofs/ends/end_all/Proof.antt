@@ -5,9 +5,9 @@ use Prim.Native.Nat.{_≤_, _-_}
 use lib.ListN.{length}
 use Rattle.table.specs.Promise.{Each}
 use Rattle.table.proofs.Part.{part-is, part-length, replaced}
-use Rattle.server.specs.Ends.{Ended}
+use Rattle.link.specs.Ends.{Ended}
 use Rattle.table.proofs.Each.{each-none, each-more}
-use Rattle.server.proofs.Turns.{did-turned}
+use Rattle.link.proofs.Links.{did-turned}
 use Rattle.server.proofs.Crashes.{ready-record}
 use native.Mathlib.Omega.{arith}
 use Rattle.server.proofs.ends.end_all.Statement.{statement}

@@ -1,6 +1,6 @@
 -- `server::gather::count_of` meets its contract: past the list there is nothing.
 -- Assumes nothing.
-use Rattle.server.proofs.Gathers.{past-counts}
+use Rattle.link.proofs.Gathers.{past-counts}
 use borrow.Author.Needs.{needs}
 use Rattle.server.proofs.gather.count_of.Statement.{statement}
 use Rattle.server.proofs.gather.count_of.Tie as tie

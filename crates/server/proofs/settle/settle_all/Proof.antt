@@ -9,7 +9,7 @@ use borrow.Author.Needs.{needs}
 use Rattle.table.specs.Promise.{Each}
 use Rattle.table.proofs.Each.{each-none, each-more}
 use Rattle.table.proofs.Part.{part-is, part-length, replaced}
-use Rattle.server.specs.Settle.{Settled}
+use Rattle.link.specs.Settle.{Settled}
 use Rattle.server.proofs.Turns.{ahead-sound}
 use Rattle.server.proofs.settle.settle_all.Statement.{statement}
 use Rattle.server.proofs.settle.settle_all.Tie as tie

@@ -1,0 +1,7 @@
+pub mod Turn
+pub mod Ends
+pub mod Gather
+pub mod Deliver
+pub mod Accept
+pub mod Waiting
+pub mod Settle
