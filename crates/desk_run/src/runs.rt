@@ -2,12 +2,12 @@
 use server::calls::accept;
 use server::calls::batch;
 use sheet::Answer;
-use steps::answer::put_answer;
 use table::begin::start;
 use table::calls::ask;
 use table::calls::push;
 use table::calls::receive;
 use table::calls::send;
+use wording::answer::put_answer;
 use words::layout::RECORD;
 use words::layout::RECORDS;
 

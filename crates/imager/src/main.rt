@@ -4,8 +4,8 @@ use imaging::compose::compose;
 use imaging::show::show;
 use protocol::Refusal;
 use sheet::Answer;
-use steps::answer::put_answer_line;
 use text::field::same;
+use wording::answer::put_answer_line;
 
 const INPUT: i32 = 0;
 

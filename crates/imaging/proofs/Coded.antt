@@ -10,7 +10,7 @@ use Rattle.cbor.specs.Code.{Here, Nowhere}
 use Rattle.cells.specs.declared.Cell.{Cell}
 use Rattle.text.specs.declared.number.Whole.{Whole}
 use Rattle.words.proofs.Places.{lt-or-ge}
-use Rattle.steps.specs.Answer.{answerLine, answerText, cellText}
+use Rattle.wording.specs.Answer.{answerLine, answerText, cellText}
 use Rattle.image.specs.Image.{NumberAllowed}
 use Rattle.image.specs.Item.{CellAllowed}
 use Rattle.image.specs.declared.cell.Meant.the-variants.{Means, NoCell}

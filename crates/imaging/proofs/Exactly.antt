@@ -20,10 +20,10 @@ use Rattle.text.proofs.DecimalTrip.{decimal-complete, decimal-sound}
 use Rattle.text.proofs.Fields.{NoComma, decimal-no-comma, line-fields, no-comma, record-commas, record-field, record-first, same-eq}
 use Rattle.text.proofs.HexTrip.{bits-complete, bits-sound}
 use Rattle.text.proofs.SignedTrip.{signed-complete, signed-sound}
-use Rattle.steps.specs.Answer.{cellText}
-use Rattle.steps.specs.Names.{blankText, countText, measureText}
-use Rattle.steps.specs.Values.{wordOf}
-use Rattle.steps.specs.declared.values.Word.{Word}
+use Rattle.wording.specs.Answer.{cellText}
+use Rattle.wording.specs.Names.{blankText, countText, measureText}
+use Rattle.wording.specs.Values.{wordOf}
+use Rattle.wording.specs.declared.values.Word.{Word}
 use Rattle.steps.proofs.Cases.{cond-of, signed-of, whole-of}
 use Rattle.steps.proofs.Words.{WordIs, hex-no-comma, signed-no-comma, word-sound, words}
 use Rattle.image.specs.Image.{NumberAllowed}

@@ -7,7 +7,7 @@ use lib.ListN.{length}
 use Rattle.cbor.specs.Code.{each}
 use Rattle.record.specs.Reading.{queue}
 use Rattle.text.proofs.PutLaws.{put-as, put-none, put-then}
-use Rattle.steps.specs.Answer.{PutUpTo, answerLine}
+use Rattle.wording.specs.Answer.{PutUpTo, answerLine}
 use Rattle.protocol.specs.declared.Refusal.the-variants.{NoImage}
 use Rattle.sheet.specs.declared.Answer.the-variants.{Refused}
 use Rattle.image.specs.Image.{NotImage}

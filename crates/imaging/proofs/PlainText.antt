@@ -16,8 +16,8 @@ use Rattle.text.specs.Text.{decimalText, digitByte, hexText, isNegative, signed
 use Rattle.text.proofs.DecimalText.{by-digits, decimal-length, decimal-more, decimal-small}
 use Rattle.text.proofs.HexText.{hex-length}
 use Rattle.text.proofs.Sign.{signed-above, signed-below, signed-length}
-use Rattle.steps.specs.Answer.{cellText}
-use Rattle.steps.specs.Names.{blankText, countText, measureText}
+use Rattle.wording.specs.Answer.{cellText}
+use Rattle.wording.specs.Names.{blankText, countText, measureText}
 use Rattle.image.specs.Image.{NumberAllowed}
 use Rattle.image.specs.Item.{CellAllowed}
 use Rattle.imaging.specs.Shown.{numberRecord, numberText}

@@ -21,7 +21,7 @@ use Rattle.text.specs.Field.{recordOf}
 use Rattle.text.specs.Text.{Put}
 use Rattle.text.proofs.PutLaws.{put-once}
 use Rattle.table.proofs.Once.{either-way, refused-once, stable}
-use Rattle.steps.specs.Answer.{answerLine, answerText}
+use Rattle.wording.specs.Answer.{answerLine, answerText}
 use Rattle.cbor.specs.Code.{each}
 use Rattle.image.specs.Image.{Allowed, imageOf}
 use Rattle.image.specs.Promise.{Stores}

@@ -12,7 +12,7 @@ use Rattle.cells.specs.declared.Cell.the-variants.{Blank, Count, Measure}
 use Rattle.text.specs.Field.{recordOf}
 use Rattle.words.specs.Place.{Valid, cellPlace}
 use Rattle.record.proofs.Queues.{queue-length}
-use Rattle.steps.specs.Answer.{answerLine, answerText, cellText}
+use Rattle.wording.specs.Answer.{answerLine, answerText, cellText}
 use Rattle.image.specs.Image.{Allowed, NumberAllowed}
 use Rattle.image.specs.Item.{CellAllowed}
 use Rattle.image.specs.Words.{cellIn, cellsOf, numbersOf}

@@ -9,7 +9,7 @@ use Rattle.protocol.specs.declared.Refusal.the-variants.{NoImage}
 use Rattle.sheet.specs.declared.Answer.the-variants.{Value, Refused}
 use Rattle.text.specs.Field.{recordOf}
 use Rattle.text.specs.Text.{Put, decimalText}
-use Rattle.steps.specs.Answer.{answerLine}
+use Rattle.wording.specs.Answer.{answerLine}
 use Rattle.image.specs.Image.{imageOf, Allowed, NotImage}
 
 -- blank, count,n or measure, and 16 upper-case hex digits

@@ -15,8 +15,8 @@ use Rattle.cells.specs.declared.Cell.the-variants.{Blank, Count, Measure}
 use Rattle.text.specs.Field.{commasOf, fieldOf, sameAs}
 use Rattle.text.specs.Number.{onWhole, decimalOf, signedOf, bitsOf}
 use Rattle.text.specs.declared.number.Whole.{Whole}
-use Rattle.steps.specs.Values.{onSigned, wordOf}
-use Rattle.steps.specs.declared.values.Word.{Word}
+use Rattle.wording.specs.Values.{onSigned, wordOf}
+use Rattle.wording.specs.declared.values.Word.{Word}
 use Rattle.image.specs.Image.{NumberAllowed}
 use Rattle.image.specs.Item.{CellAllowed}
 use Rattle.image.specs.declared.cell.Meant.{Meant}

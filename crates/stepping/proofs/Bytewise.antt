@@ -19,7 +19,7 @@ use Rattle.lines.specs.declared.Fed.the-variants.{More, Line, Long}
 use Rattle.lines.proofs.Held.{held-none}
 use Rattle.lines.proofs.Chunks.{pending-append, ended-append}
 use Rattle.lines.proofs.Feeding.{endedBy, leftBy, fed-more, fed-line, fed-long, ended-one, pending-one}
-use Rattle.steps.specs.Answer.{answerLine}
+use Rattle.wording.specs.Answer.{answerLine}
 use Rattle.steps.proofs.Exactly.{long-line}
 use Rattle.steps.specs.declared.parse.Step.{Step}
 use Rattle.stepping.specs.Program.{Reply, asked, replyTo, devicesOf, answerTo, written, answersTo, tableAfter}

@@ -5,8 +5,9 @@ use Rattle.text.specs.Field.{recordOf, commasOf, afterCommas, upToComma, fieldO
 use Rattle.text.specs.Number.{digitOf, withDigit, nextDigit, digitsFrom, leadingZero, decimalOf, positiveOf, startsMinus, signedOf}
 use Rattle.text.specs.Text.{decimalIn, decimalText, isNegative, signedText}
 use Rattle.lines.specs.Lines.{lastOf, initOf, endsLine, nextOf, endedIn, pendingAfter, linesOf}
-use Rattle.steps.specs.Values.{numberAt, signedAt, wordOf, updateBy, updateAt}
-use Rattle.steps.specs.Parse.{kindOfAct, kindOf, pairOf, countAt, countsOf, countsFit, startStep, readStep, updateStep, deviceStep, batchStep, stepOf, parseLine}
+use Rattle.wording.specs.Values.{numberAt, signedAt, wordOf, updateBy, updateAt}
+use Rattle.wording.specs.Names.{kindOfAct, kindOf}
+use Rattle.steps.specs.Parse.{pairOf, countAt, countsOf, countsFit, startStep, readStep, updateStep, deviceStep, batchStep, stepOf, parseLine}
 use Rattle.stepping.specs.Program.{startFrom, answerTo, answersTo, outputOf}
 use Rattle.stepping.specs.CaseS.{Case·S}
 

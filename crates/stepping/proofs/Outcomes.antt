@@ -15,7 +15,7 @@ use Rattle.lines.specs.Held.{fedOf, finishOf}
 use Rattle.lines.specs.declared.Fed.{Fed}
 use Rattle.lines.specs.declared.Fed.the-variants.{More, Line, Long}
 use Rattle.steps.specs.Parse.{parseLine}
-use Rattle.steps.specs.Answer.{answerLine}
+use Rattle.wording.specs.Answer.{answerLine}
 use Rattle.stepping.specs.Program.{Asked, no·step, start, machine·step, asked}
 use Rattle.stepping.specs.Answered.{Small, StartedSmall, Does}
 use Rattle.stepping.specs.Bytes.{Place, Told, ByteFed, BytesFed}

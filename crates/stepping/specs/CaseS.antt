@@ -8,9 +8,9 @@ use Rattle.protocol.specs.declared.Refusal.the-variants.{Held}
 use Rattle.sheet.specs.declared.Answer.{Answer}
 use Rattle.text.specs.Field.{recordOf}
 use Rattle.text.specs.Text.{decimalText, signedText}
-use Rattle.steps.specs.Names.{startText, updateText, readText, batchText, actText, addText}
-use Rattle.steps.specs.Answer.{answerLine}
-use Rattle.steps.specs.declared.names.Act.{Act}
+use Rattle.wording.specs.Names.{startText, updateText, readText, batchText, actText, addText}
+use Rattle.wording.specs.Answer.{answerLine}
+use Rattle.wording.specs.declared.names.Act.{Act}
 use Rattle.stepping.specs.Program.{outputOf}
 
 -- a record and the CR LF that ends it; a step that names a device alone

@@ -14,7 +14,7 @@ use Rattle.sheet.specs.declared.Answer.{Answer}
 use Rattle.device.specs.Did.{updateOf}
 use Rattle.lines.specs.Lines.{linesOf}
 use Rattle.steps.specs.Parse.{parseLine}
-use Rattle.steps.specs.Answer.{answerLine}
+use Rattle.wording.specs.Answer.{answerLine}
 use Rattle.steps.specs.declared.parse.Counts.{Counts}
 use Rattle.steps.specs.declared.parse.Step.{Step}
 

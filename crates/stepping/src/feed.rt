@@ -10,7 +10,7 @@ use lines::feed;
 use lines::finish;
 use protocol::Refusal;
 use sheet::Answer;
-use steps::answer::put_answer_line;
+use wording::answer::put_answer_line;
 
 // The most bytes of a chunk that are fed, and room for an answer of 34 bytes to each.
 pub const CHUNK: usize = 4096;

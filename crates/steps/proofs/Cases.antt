@@ -7,9 +7,9 @@ use Rattle.text.specs.Number.{onWhole}
 use Rattle.text.specs.declared.number.Whole.{Whole}
 use Rattle.text.specs.declared.number.Signed.{Signed}
 use Rattle.cells.specs.declared.Update.{Update}
-use Rattle.steps.specs.Values.{onSigned}
+use Rattle.wording.specs.Values.{onSigned}
 use Rattle.steps.specs.Parse.{onPair, onUpdate, onCounts}
-use Rattle.steps.specs.declared.values.MaybeUpdate.{MaybeUpdate}
+use Rattle.wording.specs.declared.values.MaybeUpdate.{MaybeUpdate}
 use Rattle.steps.specs.declared.parse.Counts.{Counts}
 use Rattle.steps.specs.declared.parse.MaybeCounts.{MaybeCounts}
 use Rattle.steps.specs.declared.parse.MaybePair.{MaybePair}

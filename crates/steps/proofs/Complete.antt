@@ -13,12 +13,13 @@ use Rattle.text.specs.Text.{decimalText}
 use Rattle.text.specs.declared.number.Whole.{Whole}
 use Rattle.text.proofs.Fields.{NoCommas, decimal-no-comma, record-commas, record-first, record-field}
 use Rattle.cells.specs.declared.Update.{Update}
-use Rattle.steps.specs.Values.{numberAt, updateAt}
-use Rattle.steps.specs.Parse.{kindOf, countsOf, pairOf, startStep, readStep, updateStep, actOn, deviceStep, batchStep, cutStep, stepOf, parseLine}
+use Rattle.wording.specs.Values.{numberAt, updateAt}
+use Rattle.wording.specs.Names.{kindOf}
+use Rattle.steps.specs.Parse.{countsOf, pairOf, startStep, readStep, updateStep, actOn, deviceStep, batchStep, cutStep, stepOf, parseLine}
 use Rattle.steps.specs.Grammar.{largest, CountsAre, DeviceLine, LineIs}
-use Rattle.steps.specs.declared.names.Act.{Act}
-use Rattle.steps.specs.declared.names.Kind.{Kind}
-use Rattle.steps.specs.declared.values.MaybeUpdate.{MaybeUpdate}
+use Rattle.wording.specs.declared.names.Act.{Act}
+use Rattle.wording.specs.declared.names.Kind.{Kind}
+use Rattle.wording.specs.declared.values.MaybeUpdate.{MaybeUpdate}
 use Rattle.steps.specs.declared.parse.Counts.{Counts}
 use Rattle.steps.specs.declared.parse.MaybeCounts.{MaybeCounts}
 use Rattle.steps.specs.declared.parse.MaybePair.{MaybePair}

@@ -9,7 +9,7 @@ use lib.Dec.{eqb, ltb}
 use Rattle.text.specs.Field.{fieldOf}
 use Rattle.text.specs.Text.{decimalText}
 use Rattle.text.specs.declared.number.Whole.{Whole}
-use Rattle.steps.specs.Values.{numberAt}
+use Rattle.wording.specs.Values.{numberAt}
 use Rattle.steps.specs.Parse.{countAt, countsOf, countsFit}
 use Rattle.steps.specs.Grammar.{largest, Fits}
 use Rattle.steps.specs.declared.parse.Counts.{Counts}

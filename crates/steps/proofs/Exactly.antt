@@ -10,13 +10,14 @@ use lib.Ieee.{ofBits, binary64}
 use Rattle.text.specs.Field.{recordOf, fieldOf, afterCommas, upToComma, sameAs}
 use Rattle.text.specs.Text.{hexText}
 use Rattle.cells.specs.declared.Cell.{Cell}
-use Rattle.steps.specs.Names.{measureText}
-use Rattle.steps.specs.Parse.{kindOf, kindOfAct, stepOf, parseLine}
+use Rattle.wording.specs.Names.{measureText}
+use Rattle.wording.specs.Names.{kindOf, kindOfAct}
+use Rattle.steps.specs.Parse.{stepOf, parseLine}
 use Rattle.steps.specs.Grammar.{LineOf}
 use Rattle.steps.specs.declared.parse.Step.{Step}
 use Rattle.cells.specs.Finite.{finiteWord}
 use Rattle.cells.proofs.Finite.{word-float-word}
-use Rattle.steps.specs.Answer.{cellText}
+use Rattle.wording.specs.Answer.{cellText}
 use Rattle.steps.proofs.Sound.{line-sound}
 use Rattle.steps.proofs.Complete.{line-complete}
 

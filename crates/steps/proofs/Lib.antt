@@ -1,5 +1,3 @@
-pub mod Floats
-pub mod Answers
 pub mod Cases
 pub mod Numbers
 pub mod Words

@@ -8,7 +8,7 @@ use Rattle.text.specs.Number.{decimalOf}
 use Rattle.text.specs.Text.{decimalText}
 use Rattle.text.specs.declared.number.Whole.{Whole}
 use Rattle.text.proofs.DecimalTrip.{decimal-complete, decimal-sound}
-use Rattle.steps.specs.Values.{numberAt}
+use Rattle.wording.specs.Values.{numberAt}
 use Rattle.steps.specs.Parse.{pairOf}
 use Rattle.steps.specs.Grammar.{largest}
 use Rattle.steps.specs.declared.parse.MaybePair.{MaybePair}

@@ -12,12 +12,13 @@ use Rattle.text.specs.Field.{recordOf, commasOf, fieldOf}
 use Rattle.text.specs.Text.{decimalText}
 use Rattle.text.proofs.Fields.{fieldsFrom, line-fields}
 use Rattle.cells.specs.declared.Update.{Update}
-use Rattle.steps.specs.Names.{startText, updateText, readText, batchText, cutText, crashText, actText}
-use Rattle.steps.specs.Values.{numberAt, updateAt}
-use Rattle.steps.specs.Parse.{onPair, kindOf, countsOf, countsFit, pairOf, startStep, readStep, updateStep, actOn, deviceStep, batchStep, cutStep, stepOf, parseLine}
+use Rattle.wording.specs.Names.{startText, updateText, readText, batchText, cutText, crashText, actText}
+use Rattle.wording.specs.Values.{numberAt, updateAt}
+use Rattle.wording.specs.Names.{kindOf}
+use Rattle.steps.specs.Parse.{onPair, countsOf, countsFit, pairOf, startStep, readStep, updateStep, actOn, deviceStep, batchStep, cutStep, stepOf, parseLine}
 use Rattle.steps.specs.Grammar.{largest, Fits, CountsAre, DeviceLine, LineIs, LineOf}
-use Rattle.steps.specs.declared.names.Act.{Act}
-use Rattle.steps.specs.declared.names.Kind.{Kind}
+use Rattle.wording.specs.declared.names.Act.{Act}
+use Rattle.wording.specs.declared.names.Kind.{Kind}
 use Rattle.steps.specs.declared.parse.Counts.{Counts}
 use Rattle.steps.specs.declared.parse.Step.{Step}
 use Rattle.steps.proofs.Cases.{cond-of, whole-of, pair-of, update-of, counts-of}

@@ -18,11 +18,11 @@ use Rattle.text.proofs.SignedTrip.{signed-complete, signed-sound}
 use Rattle.text.proofs.HexTrip.{bits-complete, bits-sound}
 use Rattle.cells.specs.declared.Cell.{Cell}
 use Rattle.cells.specs.declared.Update.{Update}
-use Rattle.steps.specs.Names.{blankText, countText, measureText, addText}
-use Rattle.steps.specs.Values.{signedAt, measureAt, wordOf, updateBy, updateAt}
+use Rattle.wording.specs.Names.{blankText, countText, measureText, addText}
+use Rattle.wording.specs.Values.{signedAt, measureAt, wordOf, updateBy, updateAt}
 use Rattle.steps.specs.Grammar.{UpdateIs}
-use Rattle.steps.specs.declared.values.MaybeUpdate.{MaybeUpdate}
-use Rattle.steps.specs.declared.values.Word.{Word}
+use Rattle.wording.specs.declared.values.MaybeUpdate.{MaybeUpdate}
+use Rattle.wording.specs.declared.values.Word.{Word}
 use Rattle.steps.proofs.Cases.{cond-of, whole-of, signed-of}
 use Rattle.steps.proofs.Words.{WordIs, word-sound, words, signed-no-comma, hex-no-comma}
 

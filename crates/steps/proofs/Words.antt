@@ -11,12 +11,12 @@ use Rattle.text.specs.Text.{decimalText, signedText, hexText, isNegative, digit
 use Rattle.text.proofs.Fields.{NoComma, no-comma, no-comma-append, decimal-no-comma, same-eq}
 use Rattle.text.proofs.Sign.{signed-below, signed-above}
 use Rattle.cells.specs.declared.Update.{Update}
-use Rattle.steps.specs.Names.{startText, updateText, readText, batchText, cutText, crashText, actText, blankText, countText, measureText, addText}
-use Rattle.steps.specs.Values.{wordOf}
-use Rattle.steps.specs.Parse.{kindOf, kindOfAct}
-use Rattle.steps.specs.declared.names.Act.{Act}
-use Rattle.steps.specs.declared.names.Kind.{Kind}
-use Rattle.steps.specs.declared.values.Word.{Word}
+use Rattle.wording.specs.Names.{startText, updateText, readText, batchText, cutText, crashText, actText, blankText, countText, measureText, addText}
+use Rattle.wording.specs.Values.{wordOf}
+use Rattle.wording.specs.Names.{kindOf, kindOfAct}
+use Rattle.wording.specs.declared.names.Act.{Act}
+use Rattle.wording.specs.declared.names.Kind.{Kind}
+use Rattle.wording.specs.declared.values.Word.{Word}
 use Rattle.steps.proofs.Cases.{cond-of}
 
 -- what a first field is, by what it names

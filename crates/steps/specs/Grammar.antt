@@ -10,8 +10,8 @@ use Rattle.text.specs.Field.{recordOf}
 use Rattle.text.specs.Text.{decimalText, signedText, hexText}
 use Rattle.cells.specs.declared.Cell.{Cell}
 use Rattle.cells.specs.declared.Update.{Update}
-use Rattle.steps.specs.Names.{startText, updateText, readText, batchText, cutText, crashText, actText, blankText, countText, measureText, addText}
-use Rattle.steps.specs.declared.names.Act.{Act}
+use Rattle.wording.specs.Names.{startText, updateText, readText, batchText, cutText, crashText, actText, blankText, countText, measureText, addText}
+use Rattle.wording.specs.declared.names.Act.{Act}
 use Rattle.steps.specs.declared.parse.Counts.{Counts}
 use Rattle.steps.specs.declared.parse.Step.{Step}
 

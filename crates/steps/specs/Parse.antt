@@ -4,44 +4,19 @@ use mathlib.Core.List.{List}
 use mathlib.Core.Bool.{Bool, true, false, cond}
 use lib.ListN.{length}
 use lib.Dec.{eqb, ltb}
-use Rattle.text.specs.Field.{fieldOf, commasOf, sameAs}
+use Rattle.text.specs.Field.{fieldOf, commasOf}
 use Rattle.text.specs.Number.{onWhole}
 use Rattle.text.specs.declared.number.Whole.{Whole}
 use Rattle.cells.specs.declared.Update.{Update}
-use Rattle.steps.specs.Names.{startText, updateText, readText, batchText, cutText, crashText, actText}
-use Rattle.steps.specs.Values.{numberAt, updateAt}
-use Rattle.steps.specs.declared.names.Act.{Act}
-use Rattle.steps.specs.declared.names.Kind.{Kind}
-use Rattle.steps.specs.declared.values.MaybeUpdate.{MaybeUpdate}
+use Rattle.wording.specs.Names.{kindOf}
+use Rattle.wording.specs.Values.{numberAt, updateAt}
+use Rattle.wording.specs.declared.names.Act.{Act}
+use Rattle.wording.specs.declared.names.Kind.{Kind}
+use Rattle.wording.specs.declared.values.MaybeUpdate.{MaybeUpdate}
 use Rattle.steps.specs.declared.parse.Counts.{Counts}
 use Rattle.steps.specs.declared.parse.MaybeCounts.{MaybeCounts}
 use Rattle.steps.specs.declared.parse.MaybePair.{MaybePair}
 use Rattle.steps.specs.declared.parse.Step.{Step}
-
--- "First field is the step."
-unfoldable pub kindOfAct : List ℕ → Kind
-kindOfAct f =
-    cond (sameAs f (actText Act.Push)) (Kind.Device Act.Push) (
-    cond (sameAs f (actText Act.Send)) (Kind.Device Act.Send) (
-    cond (sameAs f (actText Act.Confirmed)) (Kind.Device Act.Confirmed) (
-    cond (sameAs f (actText Act.Ask)) (Kind.Device Act.Ask) (
-    cond (sameAs f (actText Act.Drop)) (Kind.Device Act.Drop) (
-    cond (sameAs f (actText Act.Receive)) (Kind.Device Act.Receive) (
-    cond (sameAs f (actText Act.Pull)) (Kind.Device Act.Pull) (
-    cond (sameAs f (actText Act.Accept)) (Kind.Device Act.Accept) (
-    cond (sameAs f (actText Act.Serverdrop)) (Kind.Device Act.Serverdrop) (
-    Kind.Unknown)))))))))
-
-unfoldable pub kindOf : List ℕ → Kind
-unfolding kindOfAct
-kindOf f =
-    cond (sameAs f startText) Kind.Start (
-    cond (sameAs f updateText) Kind.Update (
-    cond (sameAs f readText) Kind.Read (
-    cond (sameAs f batchText) Kind.Batch (
-    cond (sameAs f cutText) Kind.Cut (
-    cond (sameAs f crashText) Kind.Crash (
-    kindOfAct f))))))
 
 -- fields 1 and 2 as numbers, and the step that is made of them
 unfoldable pub pairOf : List ℕ → MaybePair

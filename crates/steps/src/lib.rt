@@ -1,5 +1,2 @@
-// The step program's text: which step a line is, and the text of an answer (document 01, "Step program").
-pub mod answer;
-pub mod names;
+// The step grammar: which step a line is (document 01, "Step program").
 pub mod parse;
-pub mod values;

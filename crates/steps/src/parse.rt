@@ -1,16 +1,16 @@
 // The step that a line is.
 ghost use mathlib.Core.Path.{_≡_};
 ghost use Rattle.steps.specs.Parse.{countAt, countsOf, countsFit, pairOf, actOn, deviceStep, startStep, readStep, updateStep, batchStep, cutStep, stepOf, parseLine};
-use crate::names::Act;
-use crate::names::Kind;
-use crate::names::kind_of;
-use crate::values::MaybeUpdate;
-use crate::values::number_at;
-use crate::values::update_at;
 use cells::Update;
 use text::field::commas;
 use text::field::field;
 use text::number::Whole;
+use wording::names::Act;
+use wording::names::Kind;
+use wording::names::kind_of;
+use wording::values::MaybeUpdate;
+use wording::values::number_at;
+use wording::values::update_at;
 
 // The counts of a batch or a cut: how many there are, at most 3, and what they are, 0 for those that are not there.
 pub struct Counts {

@@ -2,7 +2,7 @@
 -- Assumes nothing.
 use borrow.Author.Tests.{eq-eqb, ne-eqb}
 use mathlib.Core.Path.{_∙_, ap, sym}
-use Rattle.steps.specs.Values.{wordOf}
+use Rattle.wording.specs.Values.{wordOf}
 use Rattle.imaging.specs.Texts.{cellBy, cellFrom, countOf, measureOf}
 use borrow.Author.Needs.{needs}
 use Rattle.imaging.proofs.line.cell_from.Statement.{statement}

@@ -1,6 +1,7 @@
 use borrow.Author.Tests.{lt-ltb, le-ltb}
 use mathlib.Core.Path.{ap, _∙_}
-use Rattle.steps.specs.Parse.{kindOf, parseLine}
+use Rattle.wording.specs.Names.{kindOf}
+use Rattle.steps.specs.Parse.{parseLine}
 use borrow.Author.Needs.{needs}
 use Rattle.steps.proofs.parse.parse_line.Statement.{statement}
 use Rattle.steps.proofs.parse.parse_line.Tie as tie
