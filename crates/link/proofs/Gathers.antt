@@ -6,7 +6,7 @@ use mathlib.Core.List.{List, [], _∷_, _++_}
 use Prim.Native.Nat.{ℕ, zero, suc, _+_, _*_, _-_, _≤_, _<_, min}
 use native.Mathlib.Numerals.{add-one}
 use native.Mathlib.Omega.{arith}
-use lib.ListN.{length, getD, set, take, length-append, List·getD-eq-default}
+use lib.ListN.{length, getD, set, take, length-append}
 use lib.Seq.{take-append-le}
 use Rattle.cells.specs.Cells.{joined}
 use Rattle.cells.specs.declared.Change.{Change}
@@ -50,9 +50,6 @@ pub some-share : (count waiting connection r : ℕ) → connection ≤ STALE →
 some-share count waiting zero r h n e = absurd (n refl)
 some-share count waiting (suc zero) r h n e = e
 some-share count waiting (suc (suc c)) r h n e = e
-
-pub past-counts : (counts : List ℕ) (d : ℕ) → length counts ≤ d → 0 ≡ getD counts d 0
-past-counts counts d h = sym (List·getD-eq-default counts 0 h)
 
 -- The first rounds of a queue, and its last number.
 pub queue-take : {A : Type 0} (n w : ℕ) (f : ℕ → A) → take n (queue w f) ≡ queue (min n w) f

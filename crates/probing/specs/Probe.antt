@@ -1,5 +1,5 @@
 -- A call by its number, with numbers for its arguments, as a test sends it. Assumes nothing.
-use mathlib.Core.Bool.{true, false}
+use mathlib.Core.Bool.{false}
 use mathlib.Core.List.{List, [], _∷_}
 use Prim.Native.Nat.{ℕ, zero, suc, _+_, min}
 use lib.Ieee.{Float, binary64, inf, ofBits}

@@ -32,6 +32,7 @@ use table::calls::read;
 use table::calls::receive;
 use table::calls::send;
 use table::calls::update;
+use words::list::word_at;
 
 // The language gives a NaN's bits no meaning, so every word that is no finite number's is an infinity: a call refuses both alike.
 fn measured_from(payload: u64) -> f64
@@ -54,12 +55,6 @@ fn update_from(kind: u64, payload: u64) -> Update
         3 => Update::Set(Cell::Measure(measured_from(payload))),
         _ => Update::Add(i64_of_bits(payload)),
     }
-}
-
-fn word_at(list: &[u64], i: usize) -> u64
-    ensures { λ r. ⌜ r ≡ getD (now (list .entry)) i 0 ⌝ }
-{
-    if i < list.len() { list[i] } else { 0 }
 }
 
 // The entry in the three words of the list from i on.

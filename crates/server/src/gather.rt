@@ -1,6 +1,6 @@
 // What a batch takes from all devices, joined into one segment. Nothing is changed yet.
 ghost use mathlib.Core.Path.{_≡_};
-ghost use lib.ListN.{length, getD};
+ghost use lib.ListN.{length};
 ghost use Rattle.words.specs.Layout.{ITEM};
 ghost use Rattle.server.specs.Gather.{TableReady, SegmentReady, Gathered};
 use link::gather::gather_one;
@@ -9,17 +9,11 @@ use words::layout::ITEM_PLACES;
 use words::layout::RECORD;
 use words::layout::RECORDS;
 use words::layout::SEGMENT;
+use words::list::word_at;
 use words::run::clear_changes;
 use words::run::clear_numbers;
 
-// The count of device d in a list of counts: "a device without a count in the list has 0".
-pub fn count_of(counts: &[u64], d: usize) -> u64
-    ensures { λ r. ⌜ r ≡ getD (now (counts .entry)) d 0 ⌝ }
-{
-    if d < counts.len() { counts[d] } else { 0 }
-}
-
-// The same for every device in rising number.
+// Joins what each device gives to a segment, in rising number: "a device without a count in the list has 0".
 fn gather_all(segment: &mut [u64], t: &[u64], counts: &[u64], devices: usize, cells: usize) -> u64
     requires { ⌜ TableReady (now t) devices cells × SegmentReady cells (now segment) ⌝ }
     ensures { λ r. ⌜ Gathered (now (t .entry)) (now (counts .entry)) devices cells r (now (segment .exit)) ⌝ }
@@ -29,7 +23,7 @@ fn gather_all(segment: &mut [u64], t: &[u64], counts: &[u64], devices: usize, ce
     while d < devices {
         let a = RECORDS + RECORD * d;
         let e = a + RECORD;
-        let count = count_of(counts, d);
+        let count = word_at(counts, d);
         moved += gather_one(segment, &t[a..e], d, count, cells);
         d += 1;
     }

@@ -7,10 +7,10 @@ ghost use Rattle.table.specs.Promise.{Each};
 ghost use Rattle.link.specs.Deliver.{ItemReady};
 ghost use Rattle.link.specs.Settle.{Settled};
 ghost use Rattle.server.specs.Turn.{AllSound};
-use crate::gather::count_of;
 use link::settle::settle;
 use words::layout::RECORD;
 use words::layout::RECORDS;
+use words::list::word_at;
 
 // On every record. Segments reach the devices numbered below `reach`.
 pub fn settle_all(
@@ -29,7 +29,7 @@ pub fn settle_all(
     while d < devices {
         let a = RECORDS + RECORD * d;
         let e = a + RECORD;
-        let count = count_of(counts, d);
+        let count = word_at(counts, d);
         let reaches = (d as u64) < reach;
         settle(
             &mut t[a..e],

@@ -1,6 +1,6 @@
 -- The answer to one line, on any words. Assumes nothing.
 use mathlib.Core.Path.{_≡_, refl, sym, ap, subst, _∙_}
-use mathlib.Core.List.{List, [], _∷_}
+use mathlib.Core.List.{List}
 use mathlib.Core.Logic.{_⊎_, ⊎-elim}
 use Prim.Native.Nat.{ℕ, _≤_}
 use native.Mathlib.Omega.{arith}
@@ -36,11 +36,6 @@ module _ (devices cells : ℕ) (xs : List ℕ) where
 
   pub start-small : (a : Answer) (ys : List ℕ) → Sizes devices cells → Small devices cells → Started devices cells xs a ys → StartedSmall devices cells xs a ys
   start-small a ys z s S = record { outside = λ m. absurd (m z); large = λ y m. absurd (m s); begun = λ y m. S }
-
--- no word, no device
-pub no-word : (xs : List ℕ) → length xs ≡ 0 → 0 ≡ getD xs DEVICES 0
-no-word [] e = refl
-no-word (x ∷ xs) e = absurd (omega arith)
 
 -- the line is the step that is done
 pub answered-by : (devices : ℕ) (s : Step) (line xs : List ℕ) (a : Answer) (ys : List ℕ) → devices ≡ getD xs DEVICES 0 → s ≡ parseLine devices line → Does (asked s) xs a ys → Answered line xs a ys

@@ -1,11 +1,9 @@
 // The answer to a line, on any words.
 ghost use mathlib.Core.Path.{_≡_};
 ghost use Prim.Native.Nat.{_≤_};
-ghost use lib.ListN.{take, getD};
 ghost use Rattle.protocol.specs.Machine.{step};
 ghost use Rattle.protocol.specs.Machine as machine;
 ghost use Rattle.sheet.specs.Sheet.{sheet};
-ghost use Rattle.words.specs.Layout.{DEVICES};
 ghost use Rattle.words.specs.Place.{Decides};
 ghost use Rattle.table.specs.Promise.{Stepped};
 ghost use Rattle.stepping.specs.Program.{asked, countList};
@@ -34,6 +32,7 @@ use table::calls::update;
 use words::layout::DEVICES;
 use words::layout::RECORD;
 use words::layout::RECORDS;
+use words::list::word_at;
 
 // The program's own bounds, and the words that a table takes within them.
 const MOST_DEVICES: u64 = 3;
@@ -41,13 +40,6 @@ const MOST_DEVICES: u64 = 3;
 const MOST_CELLS: u64 = 16;
 
 pub const WORDS: usize = RECORDS + RECORD * 3;
-
-// The number of devices since the last start, 0 before one.
-fn devices_of(t: &[u64]) -> u64
-    ensures { λ r. ⌜ r ≡ getD (now (t .entry)) DEVICES 0 ⌝ }
-{
-    if t.len() == 0 { 0 } else { t[DEVICES] }
-}
 
 fn is_small(devices: u64, cells: u64) -> bool
     ensures { λ b. ⌜ Decides b (Small devices cells) ⌝ }
@@ -118,10 +110,10 @@ fn answer_step(t: &mut [u64], s: Step) -> Answer
     }
 }
 
-// The answer to a line.
+// The answer to a line. The table's first word says how many devices there are since the last start, 0 before one.
 pub fn answer(t: &mut [u64], line: &[u8]) -> Answer
     ensures { λ a. ⌜ Answered (now (line .entry)) (now (t .entry)) a (now (t .exit)) ⌝ }
 {
-    let devices = devices_of(t);
+    let devices = word_at(t, DEVICES);
     answer_step(t, parse_line(devices, line))
 }

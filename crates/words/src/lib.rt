@@ -2,5 +2,6 @@
 pub mod across;
 pub mod check;
 pub mod layout;
+pub mod list;
 pub mod place;
 pub mod run;

@@ -4,7 +4,6 @@ use borrow.Author.Needs.{needs}
 use mathlib.Core.Path.{_≡_}
 use Prim.Native.Nat.{_≤_, _-_}
 use lib.ListN.{length}
-use native.Mathlib.Omega.{arith}
 use Rattle.probe.proofs.pack.Statement.{statement}
 use Rattle.probe.proofs.pack.Tie as tie
 

@@ -35,8 +35,8 @@ add-e c =
     let f = fits _ _ _ (c .before .before .before .before .before .pre .0) (c .before .loop .d) (c .loop-test .taken) in
     omega arith
 
-count-of-requires : tie.Need-count-of-requires Inv-loop μ-loop
-count-of-requires c κs = search needs
+word-at-requires : tie.Need-word-at-requires Inv-loop μ-loop
+word-at-requires c κs = search needs
 
 mul-gather-one : tie.Need-mul-gather-one Inv-loop μ-loop
 mul-gather-one c =
@@ -83,7 +83,7 @@ loop-again c =
     let T = c .before .before .before .before .before .before .before .before .before .before .before .pre .0 in
     let l = c .before .before .before .before .before .before .before .loop in
     let w = c .before .before .gather-one in
-    let g = rw (part-is _ _, c .before .before .before .before .before .count-of .ensures) at (w .ensures) in
+    let g = rw (part-is _ _, c .before .before .before .before .before .word-at .ensures) at (w .ensures) in
     let n = few-taken _ _ _ _ _ _ _ (part-ready _ _ _ T (l .d) (c .before .before .before .before .before .before .loop-test .taken) _ (l .inv .3 .item) (l .inv .3 .valid)) g in
     (omega arith, omega arith, w .kept .0 ∙ l .inv .2, gathered-more _ _ _ (l .d) _ _ _ _ (T .cells-are) (there _ _ _ T (l .d) (c .before .before .before .before .before .before .loop-test .taken)) (few _ _ _ T (l .d) (c .before .before .before .before .before .before .loop-test .taken)) (w .kept .0 ∙ l .inv .3 .item) (l .inv .3) g)
 
@@ -106,7 +106,7 @@ gather-all-spec =
     mul-a
     add-a
     add-e
-    count-of-requires
+    word-at-requires
     mul-gather-one
     sub-gather-one
     part-gather-one-start

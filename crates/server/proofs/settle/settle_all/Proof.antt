@@ -32,8 +32,8 @@ add-a c = omega (arith, c .before .before .before .before .before .pre .0 .long,
 add-e : tie.Need-add-e Inv-loop μ-loop
 add-e c = omega (arith, c .before .before .before .before .before .pre .0 .long, c .before .before .before .before .before .pre .1 .few-devices)
 
-count-of-requires : tie.Need-count-of-requires Inv-loop μ-loop
-count-of-requires c κs = search needs
+word-at-requires : tie.Need-word-at-requires Inv-loop μ-loop
+word-at-requires c κs = search needs
 
 mul-settle : tie.Need-mul-settle Inv-loop μ-loop
 mul-settle c = omega (arith, c .before .before .before .before .before .before .pre .0 .long, c .before .before .before .before .before .before .pre .1 .few-devices)
@@ -64,7 +64,7 @@ loop-again c =
     let m = P .0 .long in
     let size = w .kept .0 ∙ part-length (l .t) (l .d) (omega arith) in
     let R = replaced (l .t) _ (l .d) (omega arith) size in
-    (omega arith, R .same-length ∙ l .inv .1, each-more _ _ (l .t) _ _ (l .d) (l .inv .1) (omega arith) (l .inv .2) R (rw (part-is _ _, c .before .before .before .before .count-of .ensures) at (w .ensures)))
+    (omega arith, R .same-length ∙ l .inv .1, each-more _ _ (l .t) _ _ (l .d) (l .inv .1) (omega arith) (l .inv .2) R (rw (part-is _ _, c .before .before .before .before .word-at .ensures) at (w .ensures)))
 
 same-length : tie.Need-same-length Inv-loop μ-loop
 same-length c = c .before .loop .inv .1
@@ -85,7 +85,7 @@ settle-all-spec =
     mul-a
     add-a
     add-e
-    count-of-requires
+    word-at-requires
     mul-settle
     sub-settle
     part-settle-start

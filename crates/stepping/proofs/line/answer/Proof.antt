@@ -5,8 +5,8 @@ use borrow.Author.Needs.{needs}
 use Rattle.stepping.proofs.line.answer.Statement.{statement}
 use Rattle.stepping.proofs.line.answer.Tie as tie
 
-devices-of-requires : tie.Need-devices-of-requires
-devices-of-requires c κs = search needs
+word-at-requires : tie.Need-word-at-requires
+word-at-requires c κs = search needs
 
 parse-line-requires : tie.Need-parse-line-requires
 parse-line-requires c κs = search needs
@@ -20,9 +20,9 @@ same-length c = search needs
 returns : tie.Need-returns
 returns c =
     let b = c .before .before in
-    answered-by _ _ _ _ _ _ (b .before .before .before .devices-of .ensures) (b .before .parse-line .ensures) (b .answer-step .ensures)
+    answered-by _ _ _ _ _ _ (b .before .before .before .word-at .ensures) (b .before .parse-line .ensures) (b .answer-step .ensures)
 
 pub answer-spec : {M : Type 1} → statement M
 answer-spec =
     tie.close
-    (tie.spec devices-of-requires parse-line-requires answer-step-requires same-length returns)
+    (tie.spec word-at-requires parse-line-requires answer-step-requires same-length returns)

@@ -1,10 +1,10 @@
--- `probing::word_at` meets its contract: past the list there are zeros.
+-- `words::list::word_at` meets its contract: past the list there are zeros.
 -- Assumes nothing.
 use mathlib.Core.Path.{sym}
 use lib.ListN.{List·getD-eq-default}
 use borrow.Author.Needs.{needs}
-use Rattle.probing.proofs.word_at.Statement.{statement}
-use Rattle.probing.proofs.word_at.Tie as tie
+use Rattle.words.proofs.list.word_at.Statement.{statement}
+use Rattle.words.proofs.list.word_at.Tie as tie
 
 mul-result : tie.Need-mul-result
 mul-result c = search needs
