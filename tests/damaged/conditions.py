@@ -9,8 +9,6 @@ MASK = at.MASK
 HUGE = (1 << 32, 1 << 63, MASK - 1, MASK)
 NOT_FINITE = (0x7FF0000000000000, 0xFFF0000000000000, 0x7FF8000000000000, 0x7FF0000000000001, MASK)
 
-# ---- random runs
-
 
 def some_cell(chance):
     kind = chance.randrange(5)
@@ -94,9 +92,6 @@ def run_tables(chance, count):
         yield words
 
 
-# ---- what no run reaches
-
-
 def unreached(words):
     """Whether the table breaks what holds of every reached one: numbers that must agree, rounds that wait and are not those pending above the taken one, .."""
     table = at.read(words)
@@ -116,9 +111,6 @@ def unreached(words):
             if any(number > table.taken[e] for e, number in given):
                 return True
     return False
-
-
-# ---- damages: each gives the words to change as (index, value), or None where the table has no place for it
 
 
 def devices_where(words, test):
@@ -361,8 +353,6 @@ CONDITIONS.update({
         set_where(at.CONNECTION, at.STALE, lambda words, r: words[r + at.CHANNEL] == at.ESTABLISHED),
         set_where(at.CHANNEL, at.ESTABLISHED, lambda words, r: words[r + at.CONNECTION] == at.STALE)),
 })
-
-# ---- changes within the ranges: what they make of a table is for `faults` to say
 
 
 def other_place(chance, words):

@@ -45,9 +45,6 @@ def finite(bits):
     return bits >> 52 & 2047 != 2047
 
 
-# ---- contents are a table when
-
-
 def cell_faults(words, at, cells, where, faults):
     for kind, payload in zip(words[at:at + 2 * cells:2], words[at + 1:at + 2 * cells:2]):
         if kind > 2:
@@ -172,9 +169,6 @@ def faults(words):
     return found
 
 
-# ---- what a table says
-
-
 def signed(word):
     return word - (1 << 64) if word >> 63 else word
 
@@ -250,9 +244,6 @@ def read(words):
         if holder is not None:
             holder.rounds = rounds
     return table
-
-
-# ---- the words of what it says
 
 
 def cell_words(cell):

@@ -1,4 +1,5 @@
 -- A call by its number, with numbers for its arguments, as a test sends it. Assumes nothing.
+use mathlib.Core.Path.{_≡_}
 use mathlib.Core.Bool.{false}
 use mathlib.Core.List.{List, [], _∷_}
 use Prim.Native.Nat.{ℕ, zero, suc, _+_, min}
@@ -78,3 +79,7 @@ Does (machine·step m) xs r ys = Stepped (step sheet m) xs r ys
 -- The promise of the call of a number. a and b are its numbers: devices and cells, a device and a cell, a device and how many entries, a reach.
 pub record Probed (call a b : ℕ) (u : Update) (ws xs : List ℕ) (r : Answer) (ys : List ℕ) : Type 0 where
   pub holds : Does (numbered (calls a b u ws) call) xs r ys
+
+-- No second outcome fits, whatever the number, the arguments and the words.
+abbrev pub One·probe : Type 0
+One·probe = (call a b : ℕ) (u : Update) (ws xs : List ℕ) (r s : Answer) (ys zs : List ℕ) → Probed call a b u ws xs r ys → Probed call a b u ws xs s zs → (r ≡ s) × (ys ≡ zs)
