@@ -7,21 +7,18 @@ ghost use Rattle.protocol.specs.Machine.{step};
 ghost use Rattle.protocol.specs.Machine as machine;
 ghost use Rattle.sheet.specs.Sheet.{sheet};
 ghost use Rattle.words.specs.Layout.{DEVICES};
-ghost use Rattle.device.specs.Did.{updateOf};
 ghost use Rattle.table.specs.Table.{IsTable};
 ghost use Rattle.table.specs.Promise.{Stepped};
 ghost use Rattle.block.specs.Block.{updatesIn, refusalOf, lookedAt, Begins, Turned};
 use cells::Update;
 use cells::stored::is_finite_update;
 use device::step::Op;
-use device::step::on_record;
 use protocol::Refusal;
 use sheet::Answer;
+use table::calls::on_known;
 use table::check::is_table;
 use words::layout::CELLS;
 use words::layout::DEVICES;
-use words::layout::RECORD;
-use words::layout::RECORDS;
 
 // One line of a pasted block.
 pub struct Entry {
@@ -103,24 +100,6 @@ fn look(cells: u64, n: usize, at: usize, e: Entry) -> Walk
     }
 }
 
-// One update of a device of a table.
-fn join_one(t: &mut [u64], d: u64, cell: u64, u: Update) -> Answer
-    requires { ⌜ IsTable (now t) × (d < getD (now t) DEVICES 0) ⌝ }
-    ensures { λ a. ⌜ Stepped (step sheet (machine.update d (updateOf cell u))) (now (t .entry)) a (now (t .exit)) ⌝ }
-{
-    let devices = t[DEVICES] as usize;
-    let cells = t[CELLS] as usize;
-    let a = RECORDS + RECORD * (d as usize);
-    let e = a + RECORD;
-    on_record(
-        &mut t[a..e],
-        devices,
-        cells,
-        d as usize,
-        Op::Update(cell, u),
-    )
-}
-
 // One turn: the update e is looked at, or joined.
 fn turn(t: &mut [u64], d: u64, n: usize, e: Entry, w: Walk) -> Walk
     requires { ⌜ IsTable (now t) × (d < getD (now t) DEVICES 0) × (w .at < n) ⌝ }
@@ -131,7 +110,7 @@ fn turn(t: &mut [u64], d: u64, n: usize, e: Entry, w: Walk) -> Walk
         return look(t[CELLS], n, at, e);
     }
     let u = e.update;
-    let answer = join_one(t, d, e.cell, u);
+    let answer = on_known(t, d, Op::Update(e.cell, u));
     Walk {
         on: at + 1 < n,
         at: at + 1,

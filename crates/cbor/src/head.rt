@@ -8,7 +8,7 @@ ghost use Rattle.cbor.specs.Bytes.{Wrote};
 ghost use Rattle.cbor.specs.Head.{infoOf, widthOf, headOf, ArgumentIs};
 
 // The five bits of the shortest head with argument a.
-pub fn info_of(a: u64) -> u8
+fn info_of(a: u64) -> u8
     ensures { λ r. ⌜ r ≡ infoOf a ⌝ }
 {
     if a < 24 {
@@ -27,7 +27,7 @@ pub fn info_of(a: u64) -> u8
 }
 
 // How many bytes follow an initial byte with these five bits.
-pub fn width_of(info: u8) -> usize
+fn width_of(info: u8) -> usize
     ensures { λ r. ⌜ r ≡ widthOf info ⌝ }
 {
     if info < 24 {

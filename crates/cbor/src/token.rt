@@ -53,7 +53,7 @@ pub fn argument_of(t: Token) -> u64
 }
 
 // The token of a major type that leads an argument.
-pub fn token_with(major: u8, a: u64) -> Token
+fn token_with(major: u8, a: u64) -> Token
     ensures { λ r. ⌜ r ≡ tokenWith major a ⌝ }
 {
     match major {

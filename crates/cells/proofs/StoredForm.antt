@@ -9,7 +9,6 @@ use lib.IntN.{ℤ}
 use lib.Ieee.{binary64, ofBits, fits}
 use lib.Ieee.Bits.{ofBits-fits}
 use mir.Syntax.{w64}
-use mir.Val.{SFits}
 use mir.ValLaws.{toZ-fits}
 use Rattle.cells.specs.Wrap.{wordOf}
 use Rattle.cells.specs.Finite.{finiteWord}

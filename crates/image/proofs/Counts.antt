@@ -1,7 +1,6 @@
 -- Signed counts and the unsigned arguments that stand for them, exact at both ends of the range. Assumes nothing.
 use mathlib.Core.Bool.{false, true, true≢false}
 use mathlib.Core.Path.{_∙_, _≡_, ap, refl, sym}
-use Prim.Native.Nat.{ℕ}
 use native.Mathlib.Omega.{arith}
 use lib.IntN.{_-ℤ_, negsuc, pos, ℤ}
 use lib.Signed.{ltZ, mag}

@@ -15,7 +15,7 @@ ghost use Rattle.image.specs.Item.{countToken, cellToken, cellBytes, Cel
 const COUNTS: u64 = 0x8000_0000_0000_0000;
 
 // -1 - k, down to the least i64.
-pub fn below_zero(k: u64) -> i64
+fn below_zero(k: u64) -> i64
     requires { ⌜ k < 2 ^ 63 ⌝ }
     ensures { λ r. ⌜ r ≡ negsuc k ⌝ }
 {
@@ -23,14 +23,14 @@ pub fn below_zero(k: u64) -> i64
 }
 
 // The argument of a count's head: v, or -1 - v below zero.
-pub fn count_argument(v: i64) -> u64
+fn count_argument(v: i64) -> u64
     ensures { λ r. ⌜ r ≡ mag v ⌝ }
 {
     if v < 0 { (-1 - v) as u64 } else { v as u64 }
 }
 
 // The token of a count.
-pub fn count_token(v: i64) -> Token
+fn count_token(v: i64) -> Token
     ensures { λ r. ⌜ r ≡ countToken v ⌝ }
 {
     let a = count_argument(v);
@@ -42,7 +42,7 @@ pub fn count_token(v: i64) -> Token
 }
 
 // The token of a cell.
-pub fn cell_token(c: Cell) -> Token
+fn cell_token(c: Cell) -> Token
     requires { ⌜ CellAllowed c ⌝ }
     ensures { λ r. ⌜ r ≡ cellToken c ⌝ }
 {
@@ -59,7 +59,7 @@ pub enum Meant {
     NoCell,
 }
 
-pub fn cell_meant(t: Token) -> Meant
+fn cell_meant(t: Token) -> Meant
     requires { ⌜ TokenFits t ⌝ }
     ensures { λ r. ⌜ MeantIs t r ⌝ }
 {

@@ -24,7 +24,7 @@ pub enum Passed {
 }
 
 // n cells from `from` on, into the front of `words`.
-pub fn read_cells(s: &[u8], from: usize, n: usize, words: &mut [u64]) -> Passed
+fn read_cells(s: &[u8], from: usize, n: usize, words: &mut [u64]) -> Passed
     requires { ⌜ (from ≤ length (now s)) × (CELL * n ≤ length (now words)) ⌝ }
     ensures { λ r. ⌜ PassedIs cellBytes CellAllowed (cellsOf (now (words .exit)) n) (Valid cellPlace (now (words .exit)) 0 n) n (now (s .entry)) from r ⌝ }
 {
@@ -44,7 +44,7 @@ pub fn read_cells(s: &[u8], from: usize, n: usize, words: &mut [u64]) -> Passed
 }
 
 // n devices' numbers from `from` on, into the front of `numbers`.
-pub fn read_numbers(s: &[u8], from: usize, n: usize, numbers: &mut [u64]) -> Passed
+fn read_numbers(s: &[u8], from: usize, n: usize, numbers: &mut [u64]) -> Passed
     requires { ⌜ (from ≤ length (now s)) × (n ≤ length (now numbers)) ⌝ }
     ensures { λ r. ⌜ PassedIs (headOf 0) NumberAllowed (numbersOf (now (numbers .exit)) n) (Unit {0}) n (now (s .entry)) from r ⌝ }
 {
@@ -70,7 +70,7 @@ pub enum ArrayRead {
 }
 
 // The array of the cells.
-pub fn read_sheet(s: &[u8], at: usize, words: &mut [u64]) -> ArrayRead
+fn read_sheet(s: &[u8], at: usize, words: &mut [u64]) -> ArrayRead
     requires { ⌜ CELL * 64 ≤ length (now words) ⌝ }
     ensures { λ r. ⌜ ArrayReadIs cellBytes CellAllowed (cellsOf (now (words .exit))) (Valid cellPlace (now (words .exit)) 0) 1 64 (now (s .entry)) at r ⌝ }
 {
@@ -87,7 +87,7 @@ pub fn read_sheet(s: &[u8], at: usize, words: &mut [u64]) -> ArrayRead
 }
 
 // The array of the devices' numbers.
-pub fn read_devices(s: &[u8], at: usize, numbers: &mut [u64]) -> ArrayRead
+fn read_devices(s: &[u8], at: usize, numbers: &mut [u64]) -> ArrayRead
     requires { ⌜ 8 ≤ length (now numbers) ⌝ }
     ensures { λ r. ⌜ ArrayReadIs (headOf 0) NumberAllowed (numbersOf (now (numbers .exit))) (λ n. Unit {0}) 1 8 (now (s .entry)) at r ⌝ }
 {

@@ -32,7 +32,7 @@ pub struct Places {
 }
 
 // The bytes of the n cells from `from` on.
-pub fn write_cells(words: &[u64], from: usize, n: usize, out: &mut [u8], at: usize) -> usize
+fn write_cells(words: &[u64], from: usize, n: usize, out: &mut [u8], at: usize) -> usize
     requires { ⌜ CellsAt (now words) from n ⌝ }
     requires { ⌜ at + length (each cellBytes (queue n (cellIn (now words) from))) ≤ length (now out) ⌝ }
     ensures { λ r. ⌜ Wrote (now (out .entry)) at (each cellBytes (queue n (cellIn (now (words .entry)) from))) (now (out .exit)) r ⌝ }
@@ -48,7 +48,7 @@ pub fn write_cells(words: &[u64], from: usize, n: usize, out: &mut [u8], at: usi
 }
 
 // The bytes of n devices' numbers: device 0's stands at `first`, the next one's `stride` words later.
-pub fn write_numbers(
+fn write_numbers(
     numbers: &[u64],
     first: usize,
     stride: usize,
@@ -70,7 +70,7 @@ pub fn write_numbers(
 }
 
 // The array of those cells.
-pub fn write_sheet(words: &[u64], from: usize, n: usize, out: &mut [u8], at: usize) -> usize
+fn write_sheet(words: &[u64], from: usize, n: usize, out: &mut [u8], at: usize) -> usize
     requires { ⌜ CellsAt (now words) from n ⌝ }
     requires { ⌜ at + length (arrayOf cellBytes (queue n (cellIn (now words) from))) ≤ length (now out) ⌝ }
     ensures { λ r. ⌜ Wrote (now (out .entry)) at (arrayOf cellBytes (queue n (cellIn (now (words .entry)) from))) (now (out .exit)) r ⌝ }
@@ -80,7 +80,7 @@ pub fn write_sheet(words: &[u64], from: usize, n: usize, out: &mut [u8], at: usi
 }
 
 // The array of those numbers.
-pub fn write_devices(
+fn write_devices(
     numbers: &[u64],
     first: usize,
     stride: usize,
@@ -97,7 +97,7 @@ pub fn write_devices(
 }
 
 // The image at the front of a buffer that has room for it; answers its length.
-pub fn write_all(words: &[u64], numbers: &[u64], p: Places, out: &mut [u8]) -> usize
+fn write_all(words: &[u64], numbers: &[u64], p: Places, out: &mut [u8]) -> usize
     requires { ⌜ Stored (now words) (now numbers) p ⌝ }
     requires { ⌜ length (imageAt (now words) (now numbers) p) ≤ length (now out) ⌝ }
     ensures { λ r. ⌜ Wrote (now (out .entry)) 0 (imageAt (now (words .entry)) (now (numbers .entry)) p) (now (out .exit)) r ⌝ }

@@ -23,7 +23,7 @@ use words::layout::PREFIX;
 use words::layout::QUEUE;
 
 // Stores an item's words as the entry from `to` on.
-pub fn put_item(r: &mut [u64], to: usize, item: &[u64], devices: usize, cells: usize)
+fn put_item(r: &mut [u64], to: usize, item: &[u64], devices: usize, cells: usize)
     requires { ⌜ Storable devices cells (now r) (now item) to ⌝ }
     ensures { λ _. ⌜ PutEntry (itemEntry devices cells) (now (r .entry)) (now (r .exit)) to (itemAt devices cells (now (item .entry)) ITEM·KIND) ⌝ }
 {
@@ -38,7 +38,7 @@ pub fn put_item(r: &mut [u64], to: usize, item: &[u64], devices: usize, cells: u
 }
 
 // Joins a segment's words to the item from `to` on.
-pub fn join_to(r: &mut [u64], to: usize, segment: &[u64], devices: usize, cells: usize)
+fn join_to(r: &mut [u64], to: usize, segment: &[u64], devices: usize, cells: usize)
     requires { ⌜ JoinableTo devices cells (now r) (now segment) to ⌝ }
     ensures { λ _. ⌜ PutEntry (itemEntry devices cells) (now (r .entry)) (now (r .exit)) to (joinItem sheet (itemAt devices cells (now (r .entry)) to) (itemAt devices cells (now (segment .entry)) ITEM·KIND)) ⌝ }
 {

@@ -26,7 +26,7 @@ pub fn share(count: u64, connection: u64, waiting: u64) -> u64
 }
 
 // Joins the first k waiting rounds of a record to a segment's changes.
-pub fn join_rounds(segment: &mut [u64], r: &[u64], k: usize, cells: usize)
+fn join_rounds(segment: &mut [u64], r: &[u64], k: usize, cells: usize)
     requires { ⌜ RoundsReady cells k (now segment) (now r) ⌝ }
     ensures { λ _. ⌜ JoinedRounds cells k (now (segment .entry)) (now (r .entry)) (now (segment .exit)) ⌝ }
 {

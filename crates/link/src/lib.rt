@@ -1,6 +1,6 @@
 // The server's side of one device: its link, on its record.
 pub mod accept;
-pub mod deliver;
+mod deliver;
 pub mod ends;
 pub mod gather;
 pub mod settle;

@@ -1,7 +1,11 @@
 // The server's steps as public calls: on any slice, for any number of a device.
+ghost use Prim.Native.Nat.{_<_};
+ghost use lib.ListN.{getD};
 ghost use Rattle.protocol.specs.Machine.{step};
 ghost use Rattle.protocol.specs.Machine as machine;
 ghost use Rattle.sheet.specs.Sheet.{sheet};
+ghost use Rattle.words.specs.Layout.{DEVICES};
+ghost use Rattle.table.specs.Table.{IsTable};
 ghost use Rattle.table.specs.Promise.{Stepped};
 use crate::batch::take_rounds;
 use crate::ends::end_all;
@@ -17,6 +21,18 @@ use words::layout::ITEM;
 use words::layout::RECORD;
 use words::layout::RECORDS;
 
+// serverdrop of device d of a table that has it.
+fn drop_known(t: &mut [u64], d: u64) -> Answer
+    requires { ⌜ IsTable (now t) × (d < getD (now t) DEVICES 0) ⌝ }
+    ensures { λ a. ⌜ Stepped (step sheet (machine.serverdrop d)) (now (t .entry)) a (now (t .exit)) ⌝ }
+{
+    let devices = t[DEVICES] as usize;
+    let cells = t[CELLS] as usize;
+    let a = RECORDS + RECORD * (d as usize);
+    let e = a + RECORD;
+    drop_connection(&mut t[a..e], devices, cells)
+}
+
 pub fn serverdrop(t: &mut [u64], d: u64) -> Answer
     ensures { λ a. ⌜ Stepped (step sheet (machine.serverdrop d)) (now (t .entry)) a (now (t .exit)) ⌝ }
 {
@@ -26,11 +42,7 @@ pub fn serverdrop(t: &mut [u64], d: u64) -> Answer
     if d >= t[DEVICES] {
         return Answer::Refused(Refusal::NoDevice);
     }
-    let devices = t[DEVICES] as usize;
-    let cells = t[CELLS] as usize;
-    let a = RECORDS + RECORD * (d as usize);
-    let e = a + RECORD;
-    drop_connection(&mut t[a..e], devices, cells)
+    drop_known(t, d)
 }
 
 pub fn crash(t: &mut [u64]) -> Answer
@@ -45,6 +57,20 @@ pub fn crash(t: &mut [u64]) -> Answer
     Answer::Done
 }
 
+// accept of device d of a table that has it.
+fn accept_known(t: &mut [u64], d: u64) -> Answer
+    requires { ⌜ IsTable (now t) × (d < getD (now t) DEVICES 0) ⌝ }
+    ensures { λ a. ⌜ Stepped (step sheet (machine.accept d)) (now (t .entry)) a (now (t .exit)) ⌝ }
+{
+    let devices = t[DEVICES] as usize;
+    let cells = t[CELLS] as usize;
+    let mut prefix = [0u64; ITEM];
+    make_prefix(&mut prefix, t, devices, cells);
+    let a = RECORDS + RECORD * (d as usize);
+    let e = a + RECORD;
+    take_request(&mut t[a..e], &prefix, devices, cells)
+}
+
 pub fn accept(t: &mut [u64], d: u64) -> Answer
     ensures { λ a. ⌜ Stepped (step sheet (machine.accept d)) (now (t .entry)) a (now (t .exit)) ⌝ }
 {
@@ -54,13 +80,7 @@ pub fn accept(t: &mut [u64], d: u64) -> Answer
     if d >= t[DEVICES] {
         return Answer::Refused(Refusal::NoDevice);
     }
-    let devices = t[DEVICES] as usize;
-    let cells = t[CELLS] as usize;
-    let mut prefix = [0u64; ITEM];
-    make_prefix(&mut prefix, t, devices, cells);
-    let a = RECORDS + RECORD * (d as usize);
-    let e = a + RECORD;
-    take_request(&mut t[a..e], &prefix, devices, cells)
+    accept_known(t, d)
 }
 
 // "a device without a count in the list has 0, counts past the last device are ignored"

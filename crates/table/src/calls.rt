@@ -1,10 +1,14 @@
 // The device steps as public calls: on any slice, for any number of a device.
 ghost use Rattle.protocol.specs.Machine.{step};
 ghost use Rattle.protocol.specs.Machine as machine;
+ghost use Prim.Native.Nat.{_<_};
+ghost use lib.ListN.{getD};
 ghost use Rattle.sheet.specs.Sheet.{sheet};
+ghost use Rattle.words.specs.Layout.{DEVICES};
 ghost use Rattle.device.specs.Did.{named, updateOf};
 ghost use Rattle.device.specs.Look.{asked};
 ghost use Rattle.table.specs.Promise.{Stepped};
+ghost use Rattle.table.specs.Table.{IsTable};
 use crate::check::is_table;
 use cells::Update;
 use device::look::Question;
@@ -18,6 +22,18 @@ use words::layout::DEVICES;
 use words::layout::RECORD;
 use words::layout::RECORDS;
 
+// Any step of device d of a table that has it.
+pub fn on_known(t: &mut [u64], d: u64, op: Op) -> Answer
+    requires { ⌜ IsTable (now t) × (d < getD (now t) DEVICES 0) ⌝ }
+    ensures { λ a. ⌜ Stepped (step sheet (named d op)) (now (t .entry)) a (now (t .exit)) ⌝ }
+{
+    let devices = t[DEVICES] as usize;
+    let cells = t[CELLS] as usize;
+    let a = RECORDS + RECORD * (d as usize);
+    let e = a + RECORD;
+    on_record(&mut t[a..e], devices, cells, d as usize, op)
+}
+
 // Any step of device d.
 fn on_device(t: &mut [u64], d: u64, op: Op) -> Answer
     ensures { λ a. ⌜ Stepped (step sheet (named d op)) (now (t .entry)) a (now (t .exit)) ⌝ }
@@ -28,11 +44,19 @@ fn on_device(t: &mut [u64], d: u64, op: Op) -> Answer
     if d >= t[DEVICES] {
         return Answer::Refused(Refusal::NoDevice);
     }
+    on_known(t, d, op)
+}
+
+// Any question to device d of a table that has it.
+fn ask_known(t: &[u64], d: u64, q: Question) -> Answer
+    requires { ⌜ IsTable (now t) × (d < getD (now t) DEVICES 0) ⌝ }
+    ensures { λ a. ⌜ Stepped (step sheet (asked d q)) (now (t .entry)) a (now (t .entry)) ⌝ }
+{
     let devices = t[DEVICES] as usize;
     let cells = t[CELLS] as usize;
     let a = RECORDS + RECORD * (d as usize);
     let e = a + RECORD;
-    on_record(&mut t[a..e], devices, cells, d as usize, op)
+    look(&t[a..e], devices, cells, q)
 }
 
 // Any question to device d; the table stays as it is.
@@ -45,11 +69,7 @@ fn ask_device(t: &[u64], d: u64, q: Question) -> Answer
     if d >= t[DEVICES] {
         return Answer::Refused(Refusal::NoDevice);
     }
-    let devices = t[DEVICES] as usize;
-    let cells = t[CELLS] as usize;
-    let a = RECORDS + RECORD * (d as usize);
-    let e = a + RECORD;
-    look(&t[a..e], devices, cells, q)
+    ask_known(t, d, q)
 }
 
 pub fn update(t: &mut [u64], d: u64, cell: u64, u: Update) -> Answer

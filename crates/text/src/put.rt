@@ -7,7 +7,7 @@ ghost use lib.IntN.{natAbs};
 ghost use Rattle.text.specs.Text.{Put, decimalText, hexText, signedText, digitByte, isNegative};
 
 // One byte.
-pub fn put_byte(out: &mut [u8], at: usize, b: u8) -> usize
+fn put_byte(out: &mut [u8], at: usize, b: u8) -> usize
     requires { ⌜ at + 1 ≤ length (now out) ⌝ }
     ensures { λ r. ⌜ Put (now (out .entry)) at (b ∷ []) (now (out .exit)) r ⌝ }
 {

@@ -26,7 +26,7 @@ fn bits_of(x: f64) -> u64
 }
 
 // A cell's value at a place of the buffer, which has room for 32 bytes there.
-pub fn put_cell(out: &mut [u8], at: usize, v: Cell) -> usize
+fn put_cell(out: &mut [u8], at: usize, v: Cell) -> usize
     requires { ⌜ at + 32 ≤ length (now out) ⌝ }
     ensures { λ r. ⌜ PutUpTo 32 (now (out .entry)) at (cellText v) (now (out .exit)) r ⌝ }
 {

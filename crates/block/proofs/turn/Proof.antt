@@ -15,20 +15,20 @@ look-requires c κs = search needs
 returns : tie.Need-returns
 returns c = record { looks = λ e. (c .look .ensures, refl); joins = λ e. absurd (false≢true (sym (not-true _ (c .before .before .if1 .taken)) ∙ e)) }
 
-join-one-requires : tie.Need-join-one-requires
-join-one-requires c κs = search needs
-
-add-t14 : tie.Need-add-t14
-add-t14 c = search needs
+on-known-requires : tie.Need-on-known-requires
+on-known-requires c κs = search needs
 
 add-t15 : tie.Need-add-t15
 add-t15 c = search needs
+
+add-t16 : tie.Need-add-t16
+add-t16 c = search needs
 
 same-length : tie.Need-same-length
 same-length c = search needs
 
 returns-2 : tie.Need-returns-2
-returns-2 c = record { looks = λ e. absurd (false≢true (sym e ∙ not-false _ (c .before .before .before .before .if1 .left))); joins = λ e. (refl, c .before .before .join-one .ensures) }
+returns-2 c = record { looks = λ e. absurd (false≢true (sym e ∙ not-false _ (c .before .before .before .before .if1 .left))); joins = λ e. (refl, c .before .before .on-known .ensures) }
 
 pub turn-spec : {M : Type 1} → statement M
 turn-spec =
@@ -37,8 +37,8 @@ turn-spec =
     slice-read-look
     look-requires
     returns
-    join-one-requires
-    add-t14
+    on-known-requires
     add-t15
+    add-t16
     same-length
     returns-2)

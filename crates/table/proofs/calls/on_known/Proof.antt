@@ -1,13 +1,13 @@
--- `block::join_one` meets its contract: an update on the record is the update on the table. Assumes nothing.
+-- `table::calls::on_known` meets its contract: a step on the record is the step on the table.
+-- Assumes nothing.
 use mathlib.Core.Path.{_∙_}
 use native.Mathlib.Omega.{arith}
-use Rattle.device.specs.declared.step.Op.{Op}
 use Rattle.table.proofs.Part.{part-is, part-length, replaced}
 use Rattle.table.proofs.Tables.{record-of}
 use Rattle.table.proofs.Lifted.{lifted-named}
 use borrow.Author.Needs.{needs}
-use Rattle.block.proofs.join_one.Statement.{statement}
-use Rattle.block.proofs.join_one.Tie as tie
+use Rattle.table.proofs.calls.on_known.Statement.{statement}
+use Rattle.table.proofs.calls.on_known.Tie as tie
 
 slice-read-devices : tie.Need-slice-read-devices
 slice-read-devices c = search needs
@@ -50,10 +50,10 @@ returns c =
     let z = ok .sizes in
     let h = c .before .before .before .before .before .before .before .pre .1 in
     let size = w .kept .0 ∙ part-length _ (c .before .before .before .before .before .before .before .args .d) (omega arith) in
-    lifted-named _ (c .before .before .before .before .before .before .before .args .d) (Op.Update (c .before .before .before .before .before .before .before .args .cell) (c .before .before .before .before .before .before .before .args .u)) T h _ _ _ (replaced _ _ (c .before .before .before .before .before .before .before .args .d) (omega arith) size) (rw (part-is _ _) at (w .ensures))
+    lifted-named _ (c .before .before .before .before .before .before .before .args .d) (c .before .before .before .before .before .before .before .args .op) T h _ _ _ (replaced _ _ (c .before .before .before .before .before .before .before .args .d) (omega arith) size) (rw (part-is _ _) at (w .ensures))
 
-pub join-one-spec : {M : Type 1} → statement M
-join-one-spec =
+pub on-known-spec : {M : Type 1} → statement M
+on-known-spec =
     tie.close
     (tie.spec
     slice-read-devices
