@@ -16,7 +16,7 @@ use Rattle.sheet.specs.Sheet.{sheet}
 use Rattle.sheet.specs.declared.Answer.{Answer}
 use Rattle.sheet.specs.declared.Answer.the-variants.{Done, Refused, RefusedAt}
 use Rattle.words.specs.Layout.{DEVICES, CELLS}
-use Rattle.device.specs.Did.{updateOf}
+use Rattle.device.specs.Named.{updateOf}
 use Rattle.table.specs.Table.{IsTable}
 use Rattle.table.specs.Promise.{Stepped}
 use Rattle.block.specs.declared.Entry.{Entry}

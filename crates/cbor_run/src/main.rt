@@ -4,7 +4,7 @@
 use cbor::token::Read;
 use cbor::token::Token;
 use cells::Cell;
-use image::cell::CellRead;
+use coding::cell::CellRead;
 use image::opening::open_image;
 use image::writing::write_image;
 use sheet::Answer;
@@ -64,7 +64,7 @@ fn show_tokens(s: &[u8]) {
 }
 
 fn show_cell(s: &[u8]) {
-    let CellRead::CellAt(c, _) = image::cell::read_cell(s, 0) else {
+    let CellRead::CellAt(c, _) = coding::cell::read_cell(s, 0) else {
         io::write_all(OUT, b" no cell");
         return;
     };

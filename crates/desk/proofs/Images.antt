@@ -18,9 +18,9 @@ use Rattle.cbor.specs.Token.{Initial, tokenOf}
 use Rattle.cells.specs.Finite.{finiteWord}
 use Rattle.cells.specs.declared.Cell.the-variants.{Blank, Count}
 use Rattle.desk.specs.Desk.{oneAndHalf, shortest, longer}
-use Rattle.image.specs.Image.{Allowed, NotImage, imageOf}
-use Rattle.image.specs.Item.{CellAllowed, cellBytes, cellToken}
-use Rattle.image.proofs.Meaning.{cell-fits, cell-free, measure-allowed}
+use Rattle.coding.specs.Image.{Allowed, NotImage, imageOf}
+use Rattle.coding.specs.Item.{CellAllowed, cellBytes, cellToken}
+use Rattle.coding.proofs.Meaning.{cell-fits, cell-free, measure-allowed}
 use Rattle.image.proofs.Whole.{no-image-sheet}
 
 -- the cells are allowed, and their image computes

@@ -23,8 +23,8 @@ use Rattle.record.specs.Reading.{queue}
 use Rattle.table.specs.Table.{reading}
 use Rattle.table.specs.Promise.{Became}
 use Rattle.table.proofs.Once.{stable}
-use Rattle.image.specs.Image.{Allowed, NumberAllowed, imageOf}
-use Rattle.image.specs.Item.{CellAllowed}
+use Rattle.coding.specs.Image.{Allowed, NumberAllowed, imageOf}
+use Rattle.coding.specs.Item.{CellAllowed}
 use Rattle.image.specs.Promise.{Opened, startOf}
 use Rattle.image.proofs.Opens.{queue-is}
 use Rattle.image.proofs.Theorems.{opening-answers}

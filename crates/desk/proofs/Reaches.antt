@@ -21,7 +21,7 @@ use Rattle.words.proofs.Places.{lt-or-ge}
 use Rattle.table.specs.Promise.{Stepped, Started}
 use Rattle.table.specs.Table.{IsTable, ValidTable, need, reading}
 use Rattle.table.proofs.Once.{either-way}
-use Rattle.image.specs.Image.{Allowed, NumberAllowed, imageOf}
+use Rattle.coding.specs.Image.{Allowed, NumberAllowed, imageOf}
 use Rattle.image.specs.Promise.{Makes, Opened}
 use Rattle.image.proofs.Theorems.{opening-answers}
 use Rattle.desk.specs.Calls.{Call, Called, Made, Calls, Renews, Begun, at-start, at-opening, start, update, block, read, confirmed, push, send, ask, give·up, receive, pull, accept, serverdrop, batch, crash, cut, write·image, open·image}

@@ -11,11 +11,11 @@ use Rattle.protocol.specs.History.{Every}
 use Rattle.sheet.specs.Sheet.{sheet, started}
 use Rattle.sheet.specs.declared.Answer.{Answer}
 use Rattle.sheet.specs.declared.Answer.the-variants.{Done}
-use Rattle.device.specs.Did.{updateOf}
+use Rattle.device.specs.Named.{updateOf}
 use Rattle.table.specs.Promise.{Stepped, Started}
 use Rattle.block.specs.Block.{updatesIn}
 use Rattle.block.specs.declared.Entry.{Entry}
-use Rattle.image.specs.Image.{imageOf, Allowed}
+use Rattle.coding.specs.Image.{imageOf, Allowed}
 use Rattle.image.specs.Promise.{Written, Opened, startOf}
 
 -- A call, with its arguments besides the lent words. `give·up` is document 01's drop. Writing an image has a buffer, as it was and as it is then.

@@ -15,7 +15,7 @@ use Rattle.sheet.specs.Sheet.{sheet}
 use Rattle.sheet.specs.Answer.{meaning}
 use Rattle.sheet.specs.declared.Answer.{Answer}
 use Rattle.sheet.specs.declared.Answer.the-variants.{Done, Value, Yes, No, Moved, Length, Refused, RefusedAt}
-use Rattle.device.specs.Did.{updateOf}
+use Rattle.device.specs.Named.{updateOf}
 use Rattle.table.specs.Table.{reading, IsTable}
 use Rattle.block.specs.Block.{updatesIn}
 use Rattle.desk.specs.Calls.{Call, Called, Made, Calls, Renews, Begun, Run, anew, start, update, block, read, confirmed, push, send, ask, give·up, receive, pull, accept, serverdrop, batch, crash, cut, write·image, open·image}

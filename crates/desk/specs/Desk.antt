@@ -14,7 +14,7 @@ use Rattle.protocol.specs.Machine.{Device, run, fresh, push, send, ask, accept,
 use Rattle.protocol.specs.Plays.{_gives_, Plays}
 use Rattle.protocol.specs.Plays.{Line as Play}
 use Rattle.sheet.specs.Sheet.{sheet, started}
-use Rattle.image.specs.Image.{imageOf, Allowed, NotImage}
+use Rattle.coding.specs.Image.{imageOf, Allowed, NotImage}
 
 -- A line: a cell, a number added and the cell then; two changes and what they join to; steps of a table of so many devices and cells with
 -- their answers, what then is in the push buffer of device 0, and the numbers of its pending rounds; allowed cells and numbers with the bytes

@@ -1,4 +1,5 @@
 // Document 01's "Run" lines: "push 1,000,000 done, next 9; accept and 8 batches, each moving a round, unread, leave 8 items".
+use answers::answer::put_answer;
 use server::calls::accept;
 use server::calls::batch;
 use sheet::Answer;
@@ -7,7 +8,6 @@ use table::calls::ask;
 use table::calls::push;
 use table::calls::receive;
 use table::calls::send;
-use wording::answer::put_answer;
 use words::layout::RECORD;
 use words::layout::RECORDS;
 

@@ -19,7 +19,7 @@ use Rattle.words.specs.Place.{changeAt, Decides}
 use Rattle.words.proofs.Tests.{true-false}
 use Rattle.record.specs.Reading.{placesAt, changesAt, roundAt, deviceOf}
 use Rattle.record.proofs.Queues.{queue-length}
-use Rattle.device.specs.Did.{Tells}
+use Rattle.record.specs.Did.{Tells}
 
 -- A joined change that holds no update is nothing at every cell, and the other way round.
 idle-is : (n : ℕ) (b : ℕ → Change) → ((c : ℕ) → c < n → b c ≡ Nothing) → idleBelow n b ≡ true

@@ -16,7 +16,7 @@ use Rattle.sheet.specs.declared.Answer.the-variants.{Value, Refused}
 use Rattle.words.specs.Layout.{CELL, CHANGE, ROUND, ROUND·CHANGES, PENDING·LENGTH, KNOWN, TRANSACTION, BUFFERED, PENDING}
 use Rattle.words.specs.Place.{cellAt, changeAt}
 use Rattle.record.specs.Reading.{placesAt, sheetAt, changesAt, queue, roundAt, deviceOf}
-use Rattle.device.specs.Did.{Tells}
+use Rattle.record.specs.Did.{Tells}
 
 -- Cell k with the first j pending rounds applied.
 unfoldable pub after-rounds : (cells : ℕ) → List ℕ → (k j : ℕ) → Cell

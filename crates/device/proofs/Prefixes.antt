@@ -13,13 +13,13 @@ use Rattle.words.specs.Place.{Out}
 use Rattle.words.proofs.Places.{set-kept, set-new}
 use Rattle.record.specs.Reading.{sheetAt, numbersAt, itemAt, channelOf, requestOf, connectionOf, linkOf, deviceOf}
 use Rattle.record.specs.Valid.{InItem}
-use Rattle.device.specs.Did.{Did}
-use Rattle.device.specs.Items.{itemsBehind, HasItems, Receivable}
-use Rattle.device.specs.Parts.{roundEntry, itemEntry, PutEntry, QueueIs, Requeued}
-use Rattle.device.specs.Rounds.{roundsOf, HasPending}
-use Rattle.device.proofs.Entries.{round-local, item-local, queue-kept, requeued-outside}
-use Rattle.device.proofs.Items.{is-prefix}
-use Rattle.device.proofs.Parts.{WordsAre, pending-stays}
+use Rattle.record.specs.Did.{Did}
+use Rattle.queues.specs.Items.{itemsBehind, HasItems, Receivable}
+use Rattle.queues.specs.Parts.{roundEntry, itemEntry, PutEntry, QueueIs, Requeued}
+use Rattle.queues.specs.Rounds.{roundsOf, HasPending}
+use Rattle.queues.proofs.Entries.{round-local, item-local, queue-kept, requeued-outside}
+use Rattle.queues.proofs.Items.{is-prefix}
+use Rattle.queues.proofs.Parts.{WordsAre, pending-stays}
 use Rattle.device.proofs.Receives.{Buffered, first-item, has-items, receive-done}
 
 module _ (devices cells : ℕ) (xs : List ℕ) (d : ℕ) (A : Receivable devices cells xs d) (e : getD xs ITEMS 0 ≡ PREFIX) where

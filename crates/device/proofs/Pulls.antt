@@ -16,12 +16,12 @@ use Rattle.words.proofs.Places.{set-kept, set-new, cell-local}
 use Rattle.record.specs.Reading.{sheetAt, itemAt, givenBy, deviceOf}
 use Rattle.record.specs.Valid.{InUse, ValidItem, IsRecord}
 use Rattle.record.proofs.Loops.{copied, applied-changes}
-use Rattle.device.specs.Did.{Did}
-use Rattle.device.specs.Parts.{PlacesAre, roundEntry, QueueIs, Requeued}
-use Rattle.device.specs.Rounds.{roundsOf, HasPending}
-use Rattle.device.proofs.Entries.{round-local, requeued-outside}
-use Rattle.device.proofs.Items.{is-prefix, is-segment, no-prefix, gives-word, is-empty, is-filled}
-use Rattle.device.proofs.Parts.{Parts, parts-of, did-parts, past-singles, places-kept, last-stays, covered-stays, words-stay, transaction-stays, buffered-stays, pending-stays, waiting-stays, items-stay}
+use Rattle.record.specs.Did.{Did}
+use Rattle.queues.specs.Parts.{PlacesAre, roundEntry, QueueIs, Requeued}
+use Rattle.queues.specs.Rounds.{roundsOf, HasPending}
+use Rattle.queues.proofs.Entries.{round-local, requeued-outside}
+use Rattle.queues.proofs.Items.{is-prefix, is-segment, no-prefix, gives-word, is-empty, is-filled}
+use Rattle.queues.proofs.Parts.{Parts, parts-of, did-parts, past-singles, places-kept, last-stays, covered-stays, words-stay, transaction-stays, buffered-stays, pending-stays, waiting-stays, items-stay}
 
 -- The buffered item is applied to the known sheet.
 module _ (devices cells : ℕ) (xs : List ℕ) (len : length xs ≡ RECORD) (few : cells ≤ 64) (K : Valid cellPlace xs KNOWN cells) (ok : ValidItem devices cells xs RECEIVED) where

@@ -18,9 +18,9 @@ use Rattle.words.proofs.Places.{set-kept, set-new, change-local}
 use Rattle.record.specs.Reading.{changesAt, deviceOf}
 use Rattle.record.specs.Valid.{InUse, IsRecord}
 use Rattle.record.proofs.Loops.{joined-changes, cleared}
-use Rattle.device.specs.Did.{Did}
-use Rattle.device.proofs.Parts.{Parts, did-parts, places-put, places-kept, words-stay, known-stays, received-stays, pending-stays, waiting-stays, items-stay}
-use Rattle.device.proofs.Steps.{told}
+use Rattle.record.specs.Did.{Did}
+use Rattle.queues.proofs.Parts.{Parts, did-parts, places-put, places-kept, words-stay, known-stays, received-stays, pending-stays, waiting-stays, items-stay}
+use Rattle.record.proofs.Steps.{told}
 
 -- Past the last number nothing changes.
 pub push-refused : (devices cells : ℕ) (xs : List ℕ) → IsRecord devices cells xs → 1000000 ≤ getD xs LAST 0 → Did devices cells (push·at sheet) xs (Refused PushesSpent) xs

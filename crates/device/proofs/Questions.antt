@@ -3,7 +3,7 @@ use mathlib.Core.Path.{_≡_, sym, subst}
 use mathlib.Core.List.{List}
 use Prim.Native.Nat.{ℕ}
 use Rattle.sheet.specs.declared.Answer.{Answer}
-use Rattle.device.specs.Did.{Tells}
+use Rattle.record.specs.Did.{Tells}
 use Rattle.device.specs.Look.{questionOf}
 use Rattle.device.specs.declared.look.Question.{Question}
 

@@ -15,13 +15,13 @@ use Rattle.record.specs.Reading.{queue, itemAt, linkOf, deviceOf}
 use Rattle.record.specs.Valid.{InItem, InUse, ValidItem, IsRecord}
 use Rattle.record.proofs.Meanings.{empty-queue}
 use Rattle.record.proofs.Queues.{queue-first}
-use Rattle.device.specs.Did.{Did}
-use Rattle.device.specs.Items.{itemsOf, itemsBehind, HasItems}
-use Rattle.device.specs.Parts.{roundEntry, itemEntry, EntryBeside, QueueIs, Requeued}
-use Rattle.device.proofs.Entries.{round-local, item-local, in-item-same, queue-kept, requeued-outside}
-use Rattle.device.proofs.Items.{is-filled}
-use Rattle.device.proofs.Parts.{Parts, WordsAre, ReceivedIs, did-parts, past-singles, last-stays, covered-stays, words-kept, known-stays, transaction-stays, buffered-stays, received-kept, pending-stays, items-stay}
-use Rattle.device.proofs.Steps.{told}
+use Rattle.record.specs.Did.{Did}
+use Rattle.queues.specs.Items.{itemsOf, itemsBehind, HasItems}
+use Rattle.queues.specs.Parts.{roundEntry, itemEntry, EntryBeside, QueueIs, Requeued}
+use Rattle.queues.proofs.Entries.{round-local, item-local, in-item-same, queue-kept, requeued-outside}
+use Rattle.queues.proofs.Items.{is-filled}
+use Rattle.queues.proofs.Parts.{Parts, WordsAre, ReceivedIs, did-parts, past-singles, last-stays, covered-stays, words-kept, known-stays, transaction-stays, buffered-stays, received-kept, pending-stays, items-stay}
+use Rattle.record.proofs.Steps.{told}
 
 -- A queue by its first entry.
 first-of : {A : Type 0} (n : ℕ) (f : ℕ → A) → 0 < n → queue n f ≡ f 0 ∷ drop 1 (queue n f)

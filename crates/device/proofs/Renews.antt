@@ -15,10 +15,11 @@ use Rattle.words.proofs.Places.{set-kept, set-new}
 use Rattle.record.specs.Reading.{channelOf, connectionOf, requestOf, linkOf, deviceOf}
 use Rattle.record.specs.Valid.{IsRecord}
 use Rattle.record.proofs.Meanings.{empty-queue}
-use Rattle.device.specs.Did.{Did, renew·at}
-use Rattle.device.specs.Parts.{QueueIs, roundEntry}
-use Rattle.device.proofs.Parts.{Parts, did-parts, past-singles, last-stays, covered-stays, known-stays, transaction-stays, buffered-stays, received-stays, pending-stays, waiting-stays}
-use Rattle.device.proofs.Steps.{told, did-as}
+use Rattle.record.specs.Did.{Did}
+use Rattle.device.specs.Named.{renew·at}
+use Rattle.queues.specs.Parts.{QueueIs, roundEntry}
+use Rattle.queues.proofs.Parts.{Parts, did-parts, past-singles, last-stays, covered-stays, known-stays, transaction-stays, buffered-stays, received-stays, pending-stays, waiting-stays}
+use Rattle.record.proofs.Steps.{told, did-as}
 
 module _ (devices cells : ℕ) (xs : List ℕ) (channel request : ℕ) (R : IsRecord devices cells xs) (c : channel ≤ ESTABLISHED) (q : request ≤ 1) where
   y1 : List ℕ

@@ -12,12 +12,12 @@ use Rattle.words.specs.Layout.{ITEM, ITEM·NUMBERS, ITEM·PLACES, SEGMENT, WAIT
 use Rattle.words.specs.Place.{Out}
 use Rattle.record.specs.Reading.{changesAt, givenAt, itemAt, receivedAt, deviceOf}
 use Rattle.record.specs.Valid.{IsRecord}
-use Rattle.device.specs.Did.{Did}
-use Rattle.device.specs.Items.{itemsBehind, joinedTo, Joinable, HasItems, Receivable}
-use Rattle.device.specs.Parts.{itemEntry, PutEntry, Requeued}
-use Rattle.device.proofs.Entries.{item-local}
-use Rattle.device.proofs.Items.{is-segment, is-empty, is-filled}
-use Rattle.device.proofs.Parts.{words-stay, waiting-stays}
+use Rattle.record.specs.Did.{Did}
+use Rattle.queues.specs.Items.{itemsBehind, joinedTo, Joinable, HasItems, Receivable}
+use Rattle.queues.specs.Parts.{itemEntry, PutEntry, Requeued}
+use Rattle.queues.proofs.Entries.{item-local}
+use Rattle.queues.proofs.Items.{is-segment, is-empty, is-filled}
+use Rattle.queues.proofs.Parts.{words-stay, waiting-stays}
 use Rattle.device.proofs.Receives.{Buffered, first-item, first-beside, has-items, receive-done}
 
 -- The first item, joined to the buffered one.

@@ -21,12 +21,12 @@ use Rattle.record.proofs.Conditions.{is-lengths}
 use Rattle.record.proofs.Loops.{cleared}
 use Rattle.record.proofs.Meanings.{is-not-established}
 use Rattle.record.proofs.Queues.{queue-length}
-use Rattle.device.specs.Did.{Did}
-use Rattle.device.specs.Parts.{roundEntry, PlacesAre, QueueIs, Requeued}
-use Rattle.device.specs.Rounds.{added, Addable}
-use Rattle.device.proofs.Entries.{round-local, queue-kept, requeued-outside}
-use Rattle.device.proofs.Parts.{Parts, did-parts, past-singles, places-put, places-kept, last-stays, words-stay, known-stays, transaction-stays, buffered-stays, received-stays, waiting-stays, items-stay}
-use Rattle.device.proofs.Steps.{told}
+use Rattle.record.specs.Did.{Did}
+use Rattle.queues.specs.Parts.{roundEntry, PlacesAre, QueueIs, Requeued}
+use Rattle.queues.specs.Rounds.{added, Addable}
+use Rattle.queues.proofs.Entries.{round-local, queue-kept, requeued-outside}
+use Rattle.queues.proofs.Parts.{Parts, did-parts, past-singles, places-put, places-kept, last-stays, words-stay, known-stays, transaction-stays, buffered-stays, received-stays, waiting-stays, items-stay}
+use Rattle.record.proofs.Steps.{told}
 
 module _ (devices cells : ℕ) (xs : List ℕ) (R : IsRecord devices cells xs) where
   -- the step, by its three tests

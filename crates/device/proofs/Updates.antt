@@ -25,10 +25,11 @@ use Rattle.words.specs.Place.{changePlace, changeAt, changeOk, Put}
 use Rattle.words.proofs.Places.{Same, lt-or-ge, change-local, change-finite}
 use Rattle.record.specs.Reading.{placesAt, changesAt, deviceOf}
 use Rattle.record.specs.Valid.{InUse, IsRecord}
-use Rattle.device.specs.Did.{Did, updateOf}
-use Rattle.device.specs.Parts.{PlacesAre}
-use Rattle.device.proofs.Parts.{Parts, did-parts, last-stays, covered-stays, words-stay, known-stays, buffered-stays, received-stays, pending-stays, waiting-stays, items-stay}
-use Rattle.device.proofs.Steps.{told}
+use Rattle.record.specs.Did.{Did}
+use Rattle.device.specs.Named.{updateOf}
+use Rattle.queues.specs.Parts.{PlacesAre}
+use Rattle.queues.proofs.Parts.{Parts, did-parts, last-stays, covered-stays, words-stay, known-stays, buffered-stays, received-stays, pending-stays, waiting-stays, items-stay}
+use Rattle.record.proofs.Steps.{told}
 
 update-finite : (u : Update) → updateFinite u ≡ true → changeFinite (changeOf u) ≡ true
 update-finite (Update.Set v) e = e

@@ -1,5 +1,2 @@
-pub mod Did
-pub mod Parts
-pub mod Rounds
-pub mod Items
+pub mod Named
 pub mod Look

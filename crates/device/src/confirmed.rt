@@ -2,7 +2,7 @@
 ghost use Rattle.protocol.specs.Machine.{confirmed·at};
 ghost use Rattle.record.specs.Valid.{IsRecord};
 ghost use Rattle.sheet.specs.Sheet.{sheet};
-ghost use Rattle.device.specs.Did.{Tells};
+ghost use Rattle.record.specs.Did.{Tells};
 use sheet::Answer;
 use words::check::are_nothing;
 use words::layout::COVERED;

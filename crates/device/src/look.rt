@@ -1,6 +1,6 @@
 // One dispatcher for the questions to a device, which change nothing.
 ghost use Rattle.record.specs.Valid.{IsRecord};
-ghost use Rattle.device.specs.Did.{Tells};
+ghost use Rattle.record.specs.Did.{Tells};
 ghost use Rattle.device.specs.Look.{questionOf};
 use crate::confirmed::confirmed;
 use crate::read::read;

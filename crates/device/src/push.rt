@@ -2,7 +2,7 @@
 ghost use Rattle.protocol.specs.Machine.{push·at};
 ghost use Rattle.record.specs.Valid.{IsRecord};
 ghost use Rattle.sheet.specs.Sheet.{sheet};
-ghost use Rattle.device.specs.Did.{Did};
+ghost use Rattle.record.specs.Did.{Did};
 use protocol::Refusal;
 use sheet::Answer;
 use words::layout::BUFFERED;

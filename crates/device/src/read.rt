@@ -5,7 +5,7 @@ ghost use Rattle.protocol.specs.Machine.{applyRounds, read·at};
 ghost use Rattle.record.specs.Reading.{deviceOf};
 ghost use Rattle.record.specs.Valid.{IsRecord};
 ghost use Rattle.sheet.specs.Sheet.{sheet};
-ghost use Rattle.device.specs.Did.{Tells};
+ghost use Rattle.record.specs.Did.{Tells};
 use cells::Cell;
 use cells::joining::apply;
 use protocol::Refusal;

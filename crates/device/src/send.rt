@@ -2,9 +2,9 @@
 ghost use Rattle.protocol.specs.Machine.{send·at};
 ghost use Rattle.record.specs.Valid.{IsRecord};
 ghost use Rattle.sheet.specs.Sheet.{sheet};
-ghost use Rattle.device.specs.Did.{Did};
-use crate::round::add_round;
+ghost use Rattle.record.specs.Did.{Did};
 use protocol::Refusal;
+use queues::round::add_round;
 use sheet::Answer;
 use words::layout::BUFFERED;
 use words::layout::CHANNEL;

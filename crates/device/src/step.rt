@@ -1,7 +1,8 @@
 // One dispatcher for every step of a device.
 ghost use Prim.Native.Nat.{_<_};
 ghost use Rattle.record.specs.Valid.{IsRecord};
-ghost use Rattle.device.specs.Did.{Did, stepOf};
+ghost use Rattle.record.specs.Did.{Did};
+ghost use Rattle.device.specs.Named.{stepOf};
 use crate::ask::ask;
 use crate::give_up::give_up;
 use crate::pull::pull;

@@ -1,6 +1,4 @@
 -- Laws that belong to no one function.
-pub mod Counts
-pub mod Meaning
 pub mod Queued
 pub mod Runs
 pub mod Whole

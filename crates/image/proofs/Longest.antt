@@ -18,9 +18,9 @@ use Rattle.cells.specs.declared.Cell.{Cell}
 use Rattle.cells.specs.declared.Cell.the-variants.{Measure}
 use Rattle.record.specs.Reading.{queue}
 use Rattle.record.proofs.Queues.{queue-length}
-use Rattle.image.specs.Image.{Allowed, NumberAllowed, imageOf}
-use Rattle.image.specs.Item.{CellAllowed, cellBytes, cellToken}
-use Rattle.image.proofs.Meaning.{measure-allowed}
+use Rattle.coding.specs.Image.{Allowed, NumberAllowed, imageOf}
+use Rattle.coding.specs.Item.{CellAllowed, cellBytes, cellToken}
+use Rattle.coding.proofs.Meaning.{measure-allowed}
 use Rattle.image.proofs.Queued.{all-queue, length-array}
 use Rattle.image.proofs.Parts.{image-length}
 

@@ -26,7 +26,7 @@ use Rattle.table.specs.Promise.{Became, Begins}
 use Rattle.table.specs.Table.{need}
 use Rattle.table.proofs.Records.{below-in}
 use Rattle.table.proofs.Starts.{started-is}
-use Rattle.image.specs.Image.{NotImage}
+use Rattle.coding.specs.Image.{NotImage}
 use Rattle.image.specs.Promise.{Makes, Opened, startOf}
 use Rattle.image.specs.Read.{ImageOf}
 use Rattle.image.specs.Words.{cellIn, cellsOf, numbersOf}

@@ -11,8 +11,8 @@ use Rattle.cbor.specs.Head.{headOf}
 use Rattle.cells.specs.declared.Cell.{Cell}
 use Rattle.record.specs.Reading.{queue}
 use Rattle.record.proofs.Queues.{queue-length}
-use Rattle.image.specs.Image.{Allowed, NumberAllowed, imageOf}
-use Rattle.image.specs.Item.{CellAllowed, cellBytes}
+use Rattle.coding.specs.Image.{Allowed, NumberAllowed, imageOf}
+use Rattle.coding.specs.Item.{CellAllowed, cellBytes}
 use Rattle.image.specs.Words.{Stored, cellIn, numberIn}
 use Rattle.image.specs.declared.writing.Places.{Places}
 use Rattle.image.proofs.Queued.{all-queue}

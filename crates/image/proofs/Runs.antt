@@ -15,7 +15,7 @@ use Rattle.words.specs.Place.{Put, Valid, cellAt, cellOk, cellPlace}
 use Rattle.words.proofs.Places.{Same, below-suc, cell-local}
 use Rattle.record.specs.Reading.{queue}
 use Rattle.record.proofs.Same.{queue-same}
-use Rattle.image.specs.Item.{CellAllowed}
+use Rattle.coding.specs.Item.{CellAllowed}
 use Rattle.image.specs.Words.{CellsAt, cellIn}
 
 -- The values passed are those that a buffer holds: g before the next one is stored, h after.

@@ -17,7 +17,7 @@ use Rattle.table.specs.Table.{IsTable, reading}
 use Rattle.table.proofs.Part.{record-word}
 use Rattle.table.proofs.Records.{below-in}
 use Rattle.table.proofs.Tables.{record-of, taken-at}
-use Rattle.image.specs.Image.{imageOf}
+use Rattle.coding.specs.Image.{imageOf}
 use Rattle.image.specs.Promise.{Stores, Written, imageOfTable}
 use Rattle.image.specs.Words.{Stored, cellIn, imageAt, numberIn}
 use Rattle.image.specs.declared.writing.Places.{Places}

@@ -29,7 +29,7 @@ use Rattle.table.specs.Promise.{Became}
 use Rattle.table.specs.Table.{IsTable, need, reading, recordAt}
 use Rattle.table.proofs.Once.{became-once, either-way, refused-once}
 use Rattle.image.specs.Claims.{Longest, Longest·reached, One·encoding, One·opening, One·writing, Opened·table, Opened·written, Opening·answers, Writing·answers, Written·opened}
-use Rattle.image.specs.Image.{Allowed, NotImage, NumberAllowed, imageOf}
+use Rattle.coding.specs.Image.{Allowed, NotImage, NumberAllowed, imageOf}
 use Rattle.image.specs.Promise.{Makes, Opened, Stores, imageOfTable, startOf}
 use Rattle.image.specs.Words.{cellIn}
 use Rattle.image.proofs.Longest as Longest

@@ -10,9 +10,9 @@ use Rattle.cbor.proofs.Arrays.{array-free}
 use Rattle.cbor.specs.Code.{Here, Listed, Nowhere, Within, arrayOf}
 use Rattle.cbor.specs.Head.{headOf}
 use Rattle.cells.specs.declared.Cell.{Cell}
-use Rattle.image.specs.Image.{Allowed, NotImage, NumberAllowed, imageOf}
-use Rattle.image.specs.Item.{CellAllowed, cellBytes}
-use Rattle.image.proofs.Meaning.{cell-free, number-free}
+use Rattle.coding.specs.Image.{Allowed, NotImage, NumberAllowed, imageOf}
+use Rattle.coding.specs.Item.{CellAllowed, cellBytes}
+use Rattle.coding.proofs.Meaning.{cell-free, number-free}
 
 abbrev numbersCode : List ℕ → List ℕ
 numbersCode = arrayOf (headOf 0)

@@ -12,7 +12,7 @@ use Rattle.sheet.specs.Answer.{meaning}
 use Rattle.sheet.specs.declared.Answer.{Answer}
 use Rattle.sheet.specs.declared.Answer.the-variants.{Length}
 use Rattle.table.specs.Table.{need, reading, IsTable}
-use Rattle.image.specs.Image.{imageOf, Allowed, NotImage}
+use Rattle.coding.specs.Image.{imageOf, Allowed, NotImage}
 use Rattle.image.specs.Promise.{imageOfTable, Written, Opened}
 
 -- Each exactly when the other.

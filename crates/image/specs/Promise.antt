@@ -13,7 +13,7 @@ use Rattle.sheet.specs.declared.Answer.{Answer}
 use Rattle.record.specs.Reading.{queue}
 use Rattle.table.specs.Table.{need, reading, IsTable}
 use Rattle.table.specs.Promise.{Became, RefusedWith}
-use Rattle.image.specs.Image.{imageOf, Allowed, NotImage}
+use Rattle.coding.specs.Image.{imageOf, Allowed, NotImage}
 
 -- "Writing answers the length and touches no later byte"; 11 is "image buffer shorter than the image".
 pub record Stores (image old : List ℕ) (a : Answer) (new : List ℕ) : Type 0 where

@@ -4,7 +4,7 @@ use mathlib.Core.Path.{_≡_}
 use Prim.Native.Nat.{ℕ}
 use Rattle.cbor.specs.Code.{Here, Nowhere, HereEach, NowhereEach, arrayOf, Listed}
 use Rattle.words.specs.Place.{cellPlace, Valid}
-use Rattle.image.specs.Image.{imageOf, Allowed, NotImage}
+use Rattle.coding.specs.Image.{imageOf, Allowed, NotImage}
 use Rattle.image.specs.Words.{cellsOf, numbersOf}
 use Rattle.image.specs.declared.reading.Passed.{Passed}
 use Rattle.image.specs.declared.reading.Passed.the-variants.{UpTo, Broken}

@@ -7,7 +7,7 @@ use Rattle.cells.specs.declared.Cell.{Cell}
 use Rattle.words.specs.Layout.{CELL}
 use Rattle.words.specs.Place.{cellAt, cellPlace, Valid}
 use Rattle.record.specs.Reading.{queue}
-use Rattle.image.specs.Image.{imageOf, NumberAllowed}
+use Rattle.coding.specs.Image.{imageOf, NumberAllowed}
 use Rattle.image.specs.declared.writing.Places.{Places}
 
 -- Cell k of those from `from` on.

@@ -1,5 +1,4 @@
 // The stored image of a table's lasting part (document 01, "Stored image"): written from a table, opened into one.
-pub mod cell;
 pub mod opening;
 pub mod reading;
 pub mod writing;

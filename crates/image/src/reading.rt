@@ -1,8 +1,8 @@
 // The image read: bytes into two lent buffers, one for the cells and one for the devices' numbers.
-use crate::cell::CellRead;
-use crate::cell::read_cell;
 use cbor::number::Number;
 use cbor::number::read_number;
+use coding::cell::CellRead;
+use coding::cell::read_cell;
 use words::layout::MOST_CELLS;
 use words::layout::MOST_DEVICES;
 use words::layout::MOST_PUSHES;
@@ -12,8 +12,8 @@ ghost use lib.ListN.{length};
 ghost use Rattle.cbor.specs.Head.{headOf};
 ghost use Rattle.words.specs.Layout.{CELL};
 ghost use Rattle.words.specs.Place.{cellPlace, Valid};
-ghost use Rattle.image.specs.Item.{cellBytes, CellAllowed};
-ghost use Rattle.image.specs.Image.{NumberAllowed};
+ghost use Rattle.coding.specs.Item.{cellBytes, CellAllowed};
+ghost use Rattle.coding.specs.Image.{NumberAllowed};
 ghost use Rattle.image.specs.Words.{cellsOf, numbersOf};
 ghost use Rattle.image.specs.Read.{PassedIs, ArrayReadIs, DecodedIs};
 

@@ -1,11 +1,11 @@
 // The image tool: `imager read` prints the image that stands on standard input as text, `imager write` makes the image of such a text.
 // Another word is refused 13.
+use answers::answer::put_answer_line;
 use imaging::compose::compose;
 use imaging::show::show;
 use protocol::Refusal;
 use sheet::Answer;
 use text::field::same;
-use wording::answer::put_answer_line;
 
 const INPUT: i32 = 0;
 

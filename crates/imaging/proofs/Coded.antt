@@ -10,10 +10,10 @@ use Rattle.cbor.specs.Code.{Here, Nowhere}
 use Rattle.cells.specs.declared.Cell.{Cell}
 use Rattle.text.specs.declared.number.Whole.{Whole}
 use Rattle.words.proofs.Places.{lt-or-ge}
-use Rattle.wording.specs.Answer.{answerLine, answerText, cellText}
-use Rattle.image.specs.Image.{NumberAllowed}
-use Rattle.image.specs.Item.{CellAllowed}
-use Rattle.image.specs.declared.cell.Meant.the-variants.{Means, NoCell}
+use Rattle.answers.specs.Answer.{answerLine, answerText, cellText}
+use Rattle.coding.specs.Image.{NumberAllowed}
+use Rattle.coding.specs.Item.{CellAllowed}
+use Rattle.coding.specs.declared.cell.Meant.the-variants.{Means, NoCell}
 use Rattle.imaging.specs.Shown.{cellLine, numberLine, numberRecord}
 use Rattle.imaging.specs.Texts.{EndsAt, LineText, Plain, cellFrom, ended, numberFrom}
 use Rattle.imaging.proofs.Cuts.{first-end}

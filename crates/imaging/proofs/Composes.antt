@@ -13,7 +13,7 @@ use Rattle.words.specs.Layout.{CELL}
 use Rattle.record.specs.Reading.{queue}
 use Rattle.record.proofs.Queues.{queue-entry, queue-length}
 use Rattle.record.proofs.Same.{queue-same}
-use Rattle.image.specs.Image.{NumberAllowed, imageOf}
+use Rattle.coding.specs.Image.{NumberAllowed, imageOf}
 use Rattle.image.specs.Promise.{Stores}
 use Rattle.image.specs.Words.{Stored, cellIn, cellsOf, imageAt, numberIn, numbersOf}
 use Rattle.image.specs.declared.writing.Places.{Places}

@@ -20,16 +20,16 @@ use Rattle.text.proofs.DecimalTrip.{decimal-complete, decimal-sound}
 use Rattle.text.proofs.Fields.{NoComma, decimal-no-comma, line-fields, no-comma, record-commas, record-field, record-first, same-eq}
 use Rattle.text.proofs.HexTrip.{bits-complete, bits-sound}
 use Rattle.text.proofs.SignedTrip.{signed-complete, signed-sound}
-use Rattle.wording.specs.Answer.{cellText}
+use Rattle.answers.specs.Answer.{cellText}
 use Rattle.wording.specs.Names.{blankText, countText, measureText}
 use Rattle.wording.specs.Values.{wordOf}
 use Rattle.wording.specs.declared.values.Word.{Word}
 use Rattle.steps.proofs.Cases.{cond-of, signed-of, whole-of}
 use Rattle.steps.proofs.Words.{WordIs, hex-no-comma, signed-no-comma, word-sound, words}
-use Rattle.image.specs.Image.{NumberAllowed}
-use Rattle.image.specs.Item.{CellAllowed}
-use Rattle.image.specs.declared.cell.Meant.{Meant}
-use Rattle.image.specs.declared.cell.Meant.the-variants.{Means, NoCell}
+use Rattle.coding.specs.Image.{NumberAllowed}
+use Rattle.coding.specs.Item.{CellAllowed}
+use Rattle.coding.specs.declared.cell.Meant.{Meant}
+use Rattle.coding.specs.declared.cell.Meant.the-variants.{Means, NoCell}
 use Rattle.imaging.specs.Shown.{numberRecord, numberText}
 use Rattle.imaging.specs.Texts.{cellBy, cellFrom, countOf, finiteOf, measureOf, numberFrom}
 

@@ -7,10 +7,10 @@ use lib.ListN.{length}
 use Rattle.cbor.specs.Code.{each}
 use Rattle.record.specs.Reading.{queue}
 use Rattle.text.proofs.PutLaws.{put-as, put-none, put-then}
-use Rattle.wording.specs.Answer.{PutUpTo, answerLine}
+use Rattle.answers.specs.Answer.{PutUpTo, answerLine}
 use Rattle.protocol.specs.declared.Refusal.the-variants.{NoImage}
 use Rattle.sheet.specs.declared.Answer.the-variants.{Refused}
-use Rattle.image.specs.Image.{NotImage}
+use Rattle.coding.specs.Image.{NotImage}
 use Rattle.image.specs.Read.{ImageOf}
 use Rattle.image.specs.Words.{cellsOf, numbersOf}
 use Rattle.image.proofs.Opens.{image-sizes}

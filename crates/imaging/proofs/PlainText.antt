@@ -16,10 +16,10 @@ use Rattle.text.specs.Text.{decimalText, digitByte, hexText, isNegative, signed
 use Rattle.text.proofs.DecimalText.{by-digits, decimal-length, decimal-more, decimal-small}
 use Rattle.text.proofs.HexText.{hex-length}
 use Rattle.text.proofs.Sign.{signed-above, signed-below, signed-length}
-use Rattle.wording.specs.Answer.{cellText}
+use Rattle.answers.specs.Answer.{cellText}
 use Rattle.wording.specs.Names.{blankText, countText, measureText}
-use Rattle.image.specs.Image.{NumberAllowed}
-use Rattle.image.specs.Item.{CellAllowed}
+use Rattle.coding.specs.Image.{NumberAllowed}
+use Rattle.coding.specs.Item.{CellAllowed}
 use Rattle.imaging.specs.Shown.{numberRecord, numberText}
 use Rattle.imaging.specs.Texts.{LineText, Plain}
 

@@ -21,9 +21,9 @@ use Rattle.text.specs.Field.{recordOf}
 use Rattle.text.specs.Text.{Put}
 use Rattle.text.proofs.PutLaws.{put-once}
 use Rattle.table.proofs.Once.{either-way, refused-once, stable}
-use Rattle.wording.specs.Answer.{answerLine, answerText}
+use Rattle.answers.specs.Answer.{answerLine, answerText}
 use Rattle.cbor.specs.Code.{each}
-use Rattle.image.specs.Image.{Allowed, imageOf}
+use Rattle.coding.specs.Image.{Allowed, imageOf}
 use Rattle.image.specs.Promise.{Stores}
 use Rattle.image.proofs.Theorems.{Image, length-refused, none, one-length}
 use Rattle.imaging.specs.Claims.{Composed·shown, Composing·answers, One·composing, One·showing, One·text, Refused·shown, Shown·composed}

@@ -12,9 +12,9 @@ use Rattle.cells.specs.declared.Cell.the-variants.{Blank, Count, Measure}
 use Rattle.text.specs.Field.{recordOf}
 use Rattle.words.specs.Place.{Valid, cellPlace}
 use Rattle.record.proofs.Queues.{queue-length}
-use Rattle.wording.specs.Answer.{answerLine, answerText, cellText}
-use Rattle.image.specs.Image.{Allowed, NumberAllowed}
-use Rattle.image.specs.Item.{CellAllowed}
+use Rattle.answers.specs.Answer.{answerLine, answerText, cellText}
+use Rattle.coding.specs.Image.{Allowed, NumberAllowed}
+use Rattle.coding.specs.Item.{CellAllowed}
 use Rattle.image.specs.Words.{cellIn, cellsOf, numbersOf}
 use Rattle.imaging.specs.Composed.{NotText, TextOf}
 use Rattle.imaging.specs.Shown.{cellLine, imageText, numberLine, numberRecord}

@@ -7,7 +7,7 @@ use Rattle.protocol.specs.declared.Refusal.the-variants.{NoImage}
 use Rattle.sheet.specs.declared.Answer.{Answer}
 use Rattle.words.specs.Place.{cellPlace, Valid}
 use Rattle.table.specs.Promise.{RefusedWith}
-use Rattle.image.specs.Image.{imageOf, Allowed}
+use Rattle.coding.specs.Image.{imageOf, Allowed}
 use Rattle.image.specs.Promise.{Stores}
 use Rattle.image.specs.Words.{cellsOf, numbersOf}
 use Rattle.image.specs.declared.reading.Decoded.{Decoded}

@@ -9,8 +9,8 @@ use Rattle.protocol.specs.declared.Refusal.the-variants.{NoImage}
 use Rattle.sheet.specs.declared.Answer.the-variants.{Value, Refused}
 use Rattle.text.specs.Field.{recordOf}
 use Rattle.text.specs.Text.{Put, decimalText}
-use Rattle.wording.specs.Answer.{answerLine}
-use Rattle.image.specs.Image.{imageOf, Allowed, NotImage}
+use Rattle.answers.specs.Answer.{answerLine}
+use Rattle.coding.specs.Image.{imageOf, Allowed, NotImage}
 
 -- blank, count,n or measure, and 16 upper-case hex digits
 abbrev pub cellLine : Cell → List ℕ

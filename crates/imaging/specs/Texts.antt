@@ -17,12 +17,12 @@ use Rattle.text.specs.Number.{onWhole, decimalOf, signedOf, bitsOf}
 use Rattle.text.specs.declared.number.Whole.{Whole}
 use Rattle.wording.specs.Values.{onSigned, wordOf}
 use Rattle.wording.specs.declared.values.Word.{Word}
-use Rattle.image.specs.Image.{NumberAllowed}
-use Rattle.image.specs.Item.{CellAllowed}
-use Rattle.image.specs.declared.cell.Meant.{Meant}
-use Rattle.image.specs.declared.cell.Meant.the-variants.{Means, NoCell}
-use Rattle.image.specs.declared.cell.CellRead.{CellRead}
-use Rattle.image.specs.declared.cell.CellRead.the-variants.{CellAt, NoCellAt}
+use Rattle.coding.specs.Image.{NumberAllowed}
+use Rattle.coding.specs.Item.{CellAllowed}
+use Rattle.coding.specs.declared.cell.Meant.{Meant}
+use Rattle.coding.specs.declared.cell.Meant.the-variants.{Means, NoCell}
+use Rattle.coding.specs.declared.cell.CellRead.{CellRead}
+use Rattle.coding.specs.declared.cell.CellRead.the-variants.{CellAt, NoCellAt}
 use Rattle.imaging.specs.Shown.{cellLine, numberText, numberLine}
 use Rattle.imaging.specs.declared.line.LineRead.{LineRead}
 use Rattle.imaging.specs.declared.line.LineRead.the-variants.{Ends, NoLine}

@@ -1,8 +1,8 @@
 // One line of an image's text.
 use cbor::number::Number;
 use cells::Cell;
-use image::cell::CellRead;
-use image::cell::Meant;
+use coding::cell::CellRead;
+use coding::cell::Meant;
 use lines::Fed;
 use lines::feed;
 use lines::none;

@@ -1,17 +1,17 @@
 // The text of an image.
+use answers::answer::put_answer_line;
 use image::reading::Decoded;
 use image::reading::decode;
 use protocol::Refusal;
 use sheet::Answer;
 use text::put::put;
 use text::put::put_decimal;
-use wording::answer::put_answer_line;
 use words::place::get_cell;
 ghost use Prim.Native.Nat.{_+_, _*_, _≤_};
 ghost use lib.ListN.{length};
 ghost use Rattle.cbor.specs.Code.{each};
 ghost use Rattle.image.specs.Words.{CellsAt, cellsOf, numbersOf};
-ghost use Rattle.wording.specs.Answer.{PutUpTo};
+ghost use Rattle.answers.specs.Answer.{PutUpTo};
 ghost use Rattle.imaging.specs.Shown.{cellLine, numberLine, imageText, Shown};
 
 // A number's line, at a place with room for 34 bytes.

@@ -19,11 +19,11 @@ use Rattle.record.specs.Reading.{queue, placesAt, changesAt, numbersAt, givenBy
 use Rattle.record.proofs.Loops.{applied-across, joined-across}
 use Rattle.record.proofs.Queues.{queue-length}
 use Rattle.record.proofs.Same.{below-same, places-same, places-valid, places-filled, queue-same}
-use Rattle.device.specs.Items.{itemsOf}
-use Rattle.device.specs.Parts.{Entry, itemEntry, PutEntry, QueueIs, Requeued}
-use Rattle.device.proofs.Entries.{LocalEntry, item-local, queue-added}
-use Rattle.device.proofs.Items.{is-prefix, is-segment, no-prefix}
-use Rattle.device.proofs.Joins.{prefix-made, segment-made, given-word, later-word, later-positive}
+use Rattle.queues.specs.Items.{itemsOf}
+use Rattle.queues.specs.Parts.{Entry, itemEntry, PutEntry, QueueIs, Requeued}
+use Rattle.queues.proofs.Entries.{LocalEntry, item-local, queue-added}
+use Rattle.queues.proofs.Items.{is-prefix, is-segment, no-prefix}
+use Rattle.queues.proofs.Joins.{prefix-made, segment-made, given-word, later-word, later-positive}
 use Rattle.link.specs.Deliver.{Storable, Stackable, JoinableTo, Deliverable}
 
 -- Numbers are stored, and then places: y2 has both, and the other words of x0.

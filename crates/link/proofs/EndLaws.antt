@@ -15,11 +15,11 @@ use Rattle.words.proofs.Places.{set-kept, set-new}
 use Rattle.record.specs.Reading.{channelOf, connectionOf, requestOf, linkOf, deviceOf}
 use Rattle.record.specs.Valid.{IsRecord}
 use Rattle.record.proofs.Queues.{queue-length}
-use Rattle.device.specs.Did.{Did}
-use Rattle.device.specs.Parts.{Requeued, roundEntry, itemEntry}
-use Rattle.device.proofs.Entries.{round-local, item-local, queue-kept, requeued-outside}
-use Rattle.device.proofs.Parts.{WordsAre, parts-of}
-use Rattle.device.proofs.Steps.{told, did-as}
+use Rattle.record.specs.Did.{Did}
+use Rattle.queues.specs.Parts.{Requeued, roundEntry, itemEntry}
+use Rattle.queues.proofs.Entries.{round-local, item-local, queue-kept, requeued-outside}
+use Rattle.queues.proofs.Parts.{WordsAre, parts-of}
+use Rattle.record.proofs.Steps.{told, did-as}
 use Rattle.link.specs.Ends.{end·at}
 use Rattle.link.specs.Gather.{firstWaiting}
 use Rattle.link.specs.Turn.{Turned}

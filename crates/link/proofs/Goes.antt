@@ -15,9 +15,9 @@ use Rattle.words.proofs.Places.{lt-or-ge, set-kept, set-new}
 use Rattle.record.specs.Reading.{queue, roundAt, connectionOf, itemAt}
 use Rattle.record.proofs.Queues.{queue-drop}
 use Rattle.record.proofs.Same.{queue-same}
-use Rattle.device.specs.Items.{itemsOf}
-use Rattle.device.specs.Parts.{Movable, Moved, Requeued, roundEntry, itemEntry}
-use Rattle.device.proofs.Entries.{round-local, queue-moved}
+use Rattle.queues.specs.Items.{itemsOf}
+use Rattle.queues.specs.Parts.{Movable, Moved, Requeued, roundEntry, itemEntry}
+use Rattle.queues.proofs.Entries.{round-local, queue-moved}
 use Rattle.link.specs.Deliver.{Deliverable}
 use Rattle.link.specs.Gather.{firstWaiting}
 use Rattle.link.specs.Settle.{NumberTaken, HungUp}

@@ -16,10 +16,10 @@ use Rattle.words.specs.Place.{cellPlace, changePlace, Out}
 use Rattle.words.proofs.Places.{lt-or-ge, cell-local, change-local}
 use Rattle.record.specs.Reading.{deviceOf}
 use Rattle.record.specs.Valid.{InUse}
-use Rattle.device.specs.Did.{Did, deviceAfter}
-use Rattle.device.specs.Parts.{Entry, QueueIs, Requeued, roundEntry, itemEntry}
-use Rattle.device.proofs.Entries.{LocalEntry, round-local, item-local, queue-kept, requeued-outside}
-use Rattle.device.proofs.Parts.{WordsAre, Parts, parts-of, parts-say, parts-valid, past-singles, places-kept, received-kept}
+use Rattle.record.specs.Did.{Did, deviceAfter}
+use Rattle.queues.specs.Parts.{Entry, QueueIs, Requeued, roundEntry, itemEntry}
+use Rattle.queues.proofs.Entries.{LocalEntry, round-local, item-local, queue-kept, requeued-outside}
+use Rattle.queues.proofs.Parts.{WordsAre, Parts, parts-of, parts-say, parts-valid, past-singles, places-kept, received-kept}
 use Rattle.link.specs.Turn.{Sound, Turned}
 
 -- The number taken, then the waiting rounds, then the items, then request and connection are stored anew: nothing else is.

@@ -14,12 +14,12 @@ use Rattle.words.proofs.Places.{set-kept, set-new}
 use Rattle.record.specs.Reading.{channelOf, connectionOf, requestOf, itemAt, linkOf, deviceOf}
 use Rattle.record.specs.Valid.{IsRecord}
 use Rattle.record.proofs.Queues.{queue-length}
-use Rattle.device.specs.Did.{Did, answerOf, deviceAfter}
-use Rattle.device.specs.Items.{itemsOf}
-use Rattle.device.specs.Parts.{Requeued, roundEntry, itemEntry}
-use Rattle.device.proofs.Entries.{item-local, requeued-outside}
-use Rattle.device.proofs.Parts.{WordsAre, parts-of}
-use Rattle.device.proofs.Steps.{told}
+use Rattle.record.specs.Did.{Did, answerOf, deviceAfter}
+use Rattle.queues.specs.Items.{itemsOf}
+use Rattle.queues.specs.Parts.{Requeued, roundEntry, itemEntry}
+use Rattle.queues.proofs.Entries.{item-local, requeued-outside}
+use Rattle.queues.proofs.Parts.{WordsAre, parts-of}
+use Rattle.record.proofs.Steps.{told}
 use Rattle.link.specs.Accept.{takenUp, accept·with}
 use Rattle.link.specs.Deliver.{ItemReady, Stackable}
 use Rattle.link.specs.Turn.{Turned}

@@ -10,10 +10,10 @@ use Rattle.sheet.specs.Sheet.{sheet}
 use Rattle.words.specs.Layout.{ITEM·KIND, ITEM·NUMBERS, STALE, TAKEN, REQUEST, CONNECTION, WAITING·LENGTH, WAITING, ITEMS·LENGTH, ITEMS, RECORD}
 use Rattle.record.specs.Reading.{givenBy, channelOf, connectionOf, requestOf, itemAt, linkOf, deviceOf}
 use Rattle.record.proofs.Queues.{queue-length}
-use Rattle.device.specs.Items.{itemsOf}
-use Rattle.device.specs.Parts.{QueueIs, Requeued, roundEntry, itemEntry}
-use Rattle.device.proofs.Entries.{round-local, item-local, queue-kept, requeued-outside}
-use Rattle.device.proofs.Parts.{WordsAre, Parts, parts-of}
+use Rattle.queues.specs.Items.{itemsOf}
+use Rattle.queues.specs.Parts.{QueueIs, Requeued, roundEntry, itemEntry}
+use Rattle.queues.proofs.Entries.{round-local, item-local, queue-kept, requeued-outside}
+use Rattle.queues.proofs.Parts.{WordsAre, Parts, parts-of}
 use Rattle.link.specs.Deliver.{Deliverable}
 use Rattle.link.specs.Gather.{firstWaiting}
 use Rattle.link.specs.Settle.{NumberTaken, HungUp, Settling, settled, Settled}

@@ -2,7 +2,7 @@
 ghost use Rattle.words.specs.Layout.{ITEM·KIND};
 ghost use Rattle.record.specs.Reading.{itemAt};
 ghost use Rattle.record.specs.Valid.{IsRecord};
-ghost use Rattle.device.specs.Did.{Did};
+ghost use Rattle.record.specs.Did.{Did};
 ghost use Rattle.link.specs.Accept.{accept·with};
 ghost use Rattle.link.specs.Deliver.{ItemReady};
 use crate::deliver::put_behind;

@@ -4,7 +4,7 @@ ghost use Rattle.protocol.specs.Machine.{serverdrop·at};
 ghost use Rattle.sheet.specs.Sheet.{sheet};
 ghost use Rattle.record.specs.Reading.{requestOf};
 ghost use Rattle.record.specs.Valid.{IsRecord};
-ghost use Rattle.device.specs.Did.{Did};
+ghost use Rattle.record.specs.Did.{Did};
 ghost use Rattle.link.specs.Ends.{end·at};
 use crate::waiting::drop_waiting;
 use crate::waiting::going;

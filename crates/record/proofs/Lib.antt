@@ -6,6 +6,6 @@ pub mod OneRecord
 pub mod Read
 pub mod Meanings
 pub mod Said
-pub mod Fitting
 pub mod Conditions
 pub mod Begins
+pub mod Steps

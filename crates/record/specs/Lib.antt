@@ -2,3 +2,4 @@ pub mod Reading
 pub mod Valid
 pub mod Conditions
 pub mod Begun
+pub mod Did

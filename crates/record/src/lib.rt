@@ -1,5 +1,2 @@
-// One device's record of the lent table: whether its words are one.
+// One device's record of the lent table: what its words say, and a record at first.
 pub mod begin;
-pub mod check;
-mod entries;
-mod link;

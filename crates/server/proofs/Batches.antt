@@ -21,7 +21,7 @@ use Rattle.words.specs.Place.{cellPlace, changePlace, cellAt, changeAt, Across,
 use Rattle.words.proofs.Places.{lt-or-ge}
 use Rattle.record.specs.Reading.{below, changesAt, sheetAt, givenBy, givenAt, itemOf, itemAt, deviceOf}
 use Rattle.record.proofs.Loops.{applied-across}
-use Rattle.device.specs.Parts.{PlacesAre}
+use Rattle.queues.specs.Parts.{PlacesAre}
 use Rattle.table.specs.Table.{recordAt, reading}
 use Rattle.table.specs.Promise.{Became, Each}
 use Rattle.table.proofs.Part.{record-same}

@@ -15,8 +15,8 @@ use Rattle.words.proofs.Places.{lt-or-ge, cell-local}
 use Rattle.record.specs.Reading.{below, sheetAt, deviceOf}
 use Rattle.record.specs.Valid.{InUse}
 use Rattle.record.proofs.Same.{below-same}
-use Rattle.device.specs.Parts.{PlacesAre}
-use Rattle.device.proofs.Parts.{places-kept}
+use Rattle.queues.specs.Parts.{PlacesAre}
+use Rattle.queues.proofs.Parts.{places-kept}
 use Rattle.table.specs.Table.{recordAt, reading, InTable, ValidTable}
 use Rattle.table.specs.Promise.{Became, Each}
 use Rattle.table.proofs.Each.{each-ahead}

@@ -11,10 +11,10 @@ use Rattle.protocol.specs.Machine.{Table, choose, fresh, step, done, refused}
 use Rattle.protocol.specs.Machine as machine
 use Rattle.sheet.specs.Sheet.{sheet, started}
 use Rattle.sheet.specs.declared.Answer.{Answer}
-use Rattle.device.specs.Did.{updateOf}
+use Rattle.device.specs.Named.{updateOf}
 use Rattle.lines.specs.Lines.{linesOf}
 use Rattle.steps.specs.Parse.{parseLine}
-use Rattle.wording.specs.Answer.{answerLine}
+use Rattle.answers.specs.Answer.{answerLine}
 use Rattle.steps.specs.declared.parse.Counts.{Counts}
 use Rattle.steps.specs.declared.parse.Step.{Step}
 

@@ -4,13 +4,13 @@ ghost use Prim.Native.Nat.{_+_, _≤_, min};
 ghost use lib.ListN.{length, take};
 ghost use Rattle.stepping.specs.Bytes.{CHUNK, place, heldBy, Within, PutTold, PutByte, ChunkFed, Finished};
 use crate::line::answer;
+use answers::answer::put_answer_line;
 use lines::Fed;
 use lines::Pending;
 use lines::feed;
 use lines::finish;
 use protocol::Refusal;
 use sheet::Answer;
-use wording::answer::put_answer_line;
 
 // The most bytes of a chunk that are fed, and room for an answer of 34 bytes to each.
 pub const CHUNK: usize = 4096;

@@ -17,7 +17,7 @@ use Rattle.steps.specs.Grammar.{LineOf}
 use Rattle.steps.specs.declared.parse.Step.{Step}
 use Rattle.cells.specs.Finite.{finiteWord}
 use Rattle.cells.proofs.Finite.{word-float-word}
-use Rattle.wording.specs.Answer.{cellText}
+use Rattle.answers.specs.Answer.{cellText}
 use Rattle.steps.proofs.Sound.{line-sound}
 use Rattle.steps.proofs.Complete.{line-complete}
 

@@ -14,7 +14,8 @@ use Rattle.sheet.specs.declared.Answer.{Answer}
 use Rattle.sheet.specs.declared.Answer.the-variants.{Refused}
 use Rattle.words.specs.Layout.{TAKEN, DEVICES, CELLS}
 use Rattle.record.specs.Reading.{deviceOf}
-use Rattle.device.specs.Did.{Did, Tells, answerOf, deviceAfter, stepOf, named}
+use Rattle.record.specs.Did.{Did, Tells, answerOf, deviceAfter}
+use Rattle.device.specs.Named.{stepOf, named}
 use Rattle.device.specs.Look.{questionOf, asked}
 use Rattle.device.specs.declared.look.Question.{Question}
 use Rattle.device.specs.declared.look.Question.the-variants.{Read, Confirmed}

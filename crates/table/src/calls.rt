@@ -5,7 +5,7 @@ ghost use Prim.Native.Nat.{_<_};
 ghost use lib.ListN.{getD};
 ghost use Rattle.sheet.specs.Sheet.{sheet};
 ghost use Rattle.words.specs.Layout.{DEVICES};
-ghost use Rattle.device.specs.Did.{named, updateOf};
+ghost use Rattle.device.specs.Named.{named, updateOf};
 ghost use Rattle.device.specs.Look.{asked};
 ghost use Rattle.table.specs.Promise.{Stepped};
 ghost use Rattle.table.specs.Table.{IsTable};

@@ -5,7 +5,7 @@ ghost use Rattle.words.specs.Layout.{RECORD, RECORDS};
 ghost use Rattle.words.specs.Place.{Decides};
 ghost use Rattle.record.specs.Valid.{IsRecord};
 ghost use Rattle.table.specs.Table.{recordAt, IsTable};
-use record::check::is_record;
+use checking::check::is_record;
 use words::check::are_cells;
 use words::layout::CELLS;
 use words::layout::DEVICES;

@@ -1,4 +1,3 @@
-// The words of the step program's text: the steps' names, the values of a line, and the text of an answer (document 01, "Step program").
-pub mod answer;
+// The words of a line of the step program: the steps' names and the values (document 01, "Step program").
 pub mod names;
 pub mod values;

@@ -1,7 +1,7 @@
 -- `device::receive::receive` meets its contract: each item has its law.
 -- Assumes nothing.
 use Rattle.words.proofs.Tests.{not-zero}
-use Rattle.device.proofs.Items.{no-prefix}
+use Rattle.queues.proofs.Items.{no-prefix}
 use Rattle.device.proofs.Receives.{receive-no-channel, receive-no-item}
 use borrow.Author.Needs.{needs}
 use Rattle.device.proofs.receive.receive.Statement.{statement}

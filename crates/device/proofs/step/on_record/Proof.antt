@@ -1,6 +1,6 @@
 -- `device::step::on_record` meets its contract: each arm is its step.
 -- Assumes nothing.
-use Rattle.device.proofs.Steps.{did-op}
+use Rattle.device.proofs.Operations.{did-op}
 use borrow.Author.Needs.{needs}
 use Rattle.device.proofs.step.on_record.Statement.{statement}
 use Rattle.device.proofs.step.on_record.Tie as tie

@@ -6,8 +6,8 @@ use borrow.Author.Needs.{needs}
 use Rattle.cbor.specs.Head.{headOf}
 use Rattle.cbor.specs.Number.{NumberIs}
 use Rattle.words.specs.Place.{Valid, cellPlace}
-use Rattle.image.specs.Image.{NumberAllowed}
-use Rattle.image.specs.Item.{CellAllowed, cellBytes}
+use Rattle.coding.specs.Image.{NumberAllowed}
+use Rattle.coding.specs.Item.{CellAllowed, cellBytes}
 use Rattle.image.specs.Read.{ArrayReadIs}
 use Rattle.image.specs.Words.{cellsOf, numbersOf}
 use Rattle.image.proofs.Whole.{are-allowed, is-image, no-image-devices, no-image-end, no-image-head, no-image-sheet}

@@ -8,9 +8,9 @@ use Rattle.cbor.proofs.Codes.{broken}
 use Rattle.cbor.specs.Code.{HereEach}
 use Rattle.words.specs.Place.{Valid, cellPlace}
 use Rattle.record.specs.Reading.{queue}
-use Rattle.image.specs.Item.{CellAllowed, CellReadIs, cellBytes}
+use Rattle.coding.specs.Item.{CellAllowed, CellReadIs, cellBytes}
 use Rattle.image.specs.Words.{cellIn}
-use Rattle.image.proofs.Meaning.{cell-free}
+use Rattle.coding.proofs.Meaning.{cell-free}
 use Rattle.image.proofs.Runs.{cells-stay, passed-more, passed-none, valid-more}
 use native.Mathlib.Omega.{arith}
 use Rattle.image.proofs.reading.read_cells.Statement.{statement}

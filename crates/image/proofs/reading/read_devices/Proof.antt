@@ -7,7 +7,7 @@ use borrow.Author.Needs.{needs}
 use Rattle.cbor.proofs.Arrays.{array-broken, array-here, array-no-head}
 use Rattle.cbor.specs.Head.{headOf}
 use Rattle.cbor.specs.Number.{NumberIs}
-use Rattle.image.specs.Image.{NumberAllowed}
+use Rattle.coding.specs.Image.{NumberAllowed}
 use Rattle.image.specs.Words.{numbersOf}
 use Rattle.image.specs.Read.{PassedIs}
 use Rattle.image.proofs.reading.read_devices.Statement.{statement}

@@ -11,8 +11,8 @@ use Rattle.cbor.specs.Head.{headOf}
 use Rattle.cbor.specs.Number.{NumberIs}
 use Rattle.words.proofs.Places.{set-kept, set-new}
 use Rattle.record.specs.Reading.{queue}
-use Rattle.image.specs.Image.{NumberAllowed}
-use Rattle.image.proofs.Meaning.{number-free}
+use Rattle.coding.specs.Image.{NumberAllowed}
+use Rattle.coding.proofs.Meaning.{number-free}
 use Rattle.image.proofs.Runs.{passed-more, passed-none}
 use native.Mathlib.Omega.{arith}
 use Rattle.image.proofs.reading.read_numbers.Statement.{statement}

@@ -7,7 +7,7 @@ use borrow.Author.Needs.{needs}
 use Rattle.cbor.proofs.Arrays.{array-broken, array-here, array-no-head}
 use Rattle.cbor.specs.Number.{NumberIs}
 use Rattle.words.specs.Place.{Valid, cellPlace}
-use Rattle.image.specs.Item.{CellAllowed, cellBytes}
+use Rattle.coding.specs.Item.{CellAllowed, cellBytes}
 use Rattle.image.specs.Words.{cellsOf}
 use Rattle.image.specs.Read.{PassedIs}
 use Rattle.image.proofs.reading.read_sheet.Statement.{statement}

@@ -8,7 +8,7 @@ use Rattle.cbor.specs.Bytes.{Wrote}
 use Rattle.cbor.specs.Code.{each}
 use Rattle.cells.specs.declared.Cell.{Cell}
 use Rattle.record.specs.Reading.{queue}
-use Rattle.image.specs.Item.{CellAllowed, cellBytes}
+use Rattle.coding.specs.Item.{CellAllowed, cellBytes}
 use Rattle.image.specs.Words.{cellIn}
 use Rattle.image.proofs.Queued.{room-more, wrote-more, wrote-zero}
 use Rattle.image.proofs.Runs.{cell-in-allowed}

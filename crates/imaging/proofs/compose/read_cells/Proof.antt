@@ -8,7 +8,7 @@ use borrow.Author.Needs.{needs}
 use Rattle.cbor.specs.Code.{HereEach}
 use Rattle.words.specs.Place.{Valid, cellPlace}
 use Rattle.record.specs.Reading.{queue}
-use Rattle.image.specs.Item.{CellAllowed}
+use Rattle.coding.specs.Item.{CellAllowed}
 use Rattle.image.specs.Words.{cellIn}
 use Rattle.image.proofs.Runs.{cells-stay, passed-more, passed-none, valid-more}
 use Rattle.imaging.specs.Shown.{cellLine}

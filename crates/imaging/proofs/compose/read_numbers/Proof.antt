@@ -8,7 +8,7 @@ use borrow.Author.Needs.{needs}
 use Rattle.cbor.specs.Code.{HereEach}
 use Rattle.words.proofs.Places.{set-kept, set-new}
 use Rattle.record.specs.Reading.{queue}
-use Rattle.image.specs.Image.{NumberAllowed}
+use Rattle.coding.specs.Image.{NumberAllowed}
 use Rattle.image.proofs.Runs.{passed-more, passed-none}
 use Rattle.imaging.specs.Shown.{numberLine}
 use Rattle.imaging.specs.Texts.{NumberLineIs}

@@ -6,7 +6,7 @@ use mir.Facts.{toZ-ofZ}
 use mir.Syntax.{w64}
 use borrow.Author.Needs.{needs}
 use Rattle.cells.specs.declared.Cell.the-variants.{Count}
-use Rattle.image.specs.declared.cell.Meant.the-variants.{Means}
+use Rattle.coding.specs.declared.cell.Meant.the-variants.{Means}
 use Rattle.imaging.specs.Texts.{countOf}
 use Rattle.imaging.proofs.line.count_of.Statement.{statement}
 use Rattle.imaging.proofs.line.count_of.Tie as tie

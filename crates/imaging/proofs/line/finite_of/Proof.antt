@@ -3,7 +3,7 @@
 use mathlib.Core.Path.{_∙_, ap, sym}
 use borrow.Author.Needs.{needs}
 use Rattle.cells.specs.declared.Cell.the-variants.{Measure}
-use Rattle.image.specs.declared.cell.Meant.the-variants.{Means}
+use Rattle.coding.specs.declared.cell.Meant.the-variants.{Means}
 use Rattle.imaging.specs.Texts.{finiteOf}
 use Rattle.imaging.proofs.line.finite_of.Statement.{statement}
 use Rattle.imaging.proofs.line.finite_of.Tie as tie

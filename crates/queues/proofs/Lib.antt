@@ -1,0 +1,6 @@
+pub mod Entries
+pub mod Parts
+pub mod Rounds
+pub mod Numbered
+pub mod Items
+pub mod Joins
