@@ -16,7 +16,7 @@ use Rattle.image.specs.Words.{cellsOf, numbersOf}
 use Rattle.image.proofs.Opens.{image-sizes}
 use Rattle.image.proofs.Queued.{each-queue}
 use Rattle.image.proofs.Whole.{image-inj}
-use Rattle.imaging.specs.Shown.{Shown, imageText}
+use Rattle.listing.specs.Shown.{Shown, imageText}
 
 -- The lines of the first values of g, one more at a time.
 module _ {A : Type 0} (f : A → List ℕ) (g : ℕ → A) (before : List ℕ) (from : ℕ) where

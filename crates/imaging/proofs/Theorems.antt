@@ -28,7 +28,7 @@ use Rattle.image.specs.Promise.{Stores}
 use Rattle.image.proofs.Theorems.{Image, length-refused, none, one-length}
 use Rattle.imaging.specs.Claims.{Composed·shown, Composing·answers, One·composing, One·showing, One·text, Refused·shown, Shown·composed}
 use Rattle.imaging.specs.Composed.{Composed, NotText}
-use Rattle.imaging.specs.Shown.{cellLine, imageText, numberLine}
+use Rattle.listing.specs.Shown.{cellLine, imageText, numberLine}
 use Rattle.imaging.proofs.WholeText.{cell-first, text-inj}
 
 pub one-text : One·text

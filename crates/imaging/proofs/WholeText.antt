@@ -17,10 +17,10 @@ use Rattle.coding.specs.Image.{Allowed, NumberAllowed}
 use Rattle.coding.specs.Item.{CellAllowed}
 use Rattle.image.specs.Words.{cellIn, cellsOf, numbersOf}
 use Rattle.imaging.specs.Composed.{NotText, TextOf}
-use Rattle.imaging.specs.Shown.{cellLine, imageText, numberLine, numberRecord}
-use Rattle.imaging.specs.Texts.{RunIs}
+use Rattle.listing.specs.Shown.{cellLine, imageText, numberLine, numberRecord}
+use Rattle.imaging.specs.Runs.{RunIs}
 use Rattle.imaging.specs.declared.compose.Run.{Run}
-use Rattle.imaging.proofs.Coded.{cell-line-free, number-line-free}
+use Rattle.listing.proofs.Coded.{cell-line-free, number-line-free}
 
 -- no code is at the front
 abbrev NoneAt : {A : Type 0} → (A → List ℕ) → (A → Type 0) → List ℕ → Type 0

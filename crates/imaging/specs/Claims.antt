@@ -11,7 +11,7 @@ use Rattle.sheet.specs.declared.Answer.{Answer}
 use Rattle.sheet.specs.declared.Answer.the-variants.{Length}
 use Rattle.image.specs.Claims.{Exactly}
 use Rattle.coding.specs.Image.{imageOf, Allowed, NotImage}
-use Rattle.imaging.specs.Shown.{imageText, Shown}
+use Rattle.listing.specs.Shown.{imageText, Shown}
 use Rattle.imaging.specs.Composed.{NotText, Composed}
 
 -- One text of one sheet with its numbers.

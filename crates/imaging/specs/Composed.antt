@@ -12,7 +12,7 @@ use Rattle.image.specs.Promise.{Stores}
 use Rattle.image.specs.Words.{cellsOf, numbersOf}
 use Rattle.image.specs.declared.reading.Decoded.{Decoded}
 use Rattle.image.specs.declared.reading.Decoded.the-variants.{Sheet, NoImage as NoText}
-use Rattle.imaging.specs.Shown.{imageText}
+use Rattle.listing.specs.Shown.{imageText}
 
 -- The text is that of no image.
 abbrev pub NotText : List ℕ → Type 0

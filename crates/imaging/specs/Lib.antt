@@ -1,4 +1,3 @@
-pub mod Shown
-pub mod Texts
+pub mod Runs
 pub mod Composed
 pub mod Claims

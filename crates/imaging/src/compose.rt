@@ -1,11 +1,11 @@
 // The image of a text.
-use crate::line::cell_line;
-use crate::line::number_line;
 use cbor::number::Number;
 use coding::cell::CellRead;
 use image::reading::Decoded;
 use image::writing::Places;
 use image::writing::write;
+use listing::line::cell_line;
+use listing::line::number_line;
 use protocol::Refusal;
 use sheet::Answer;
 use words::layout::MOST_CELLS;
@@ -18,8 +18,8 @@ ghost use Rattle.words.specs.Place.{cellPlace, Valid};
 ghost use Rattle.coding.specs.Image.{NumberAllowed};
 ghost use Rattle.coding.specs.Item.{CellAllowed};
 ghost use Rattle.image.specs.Words.{cellsOf, numbersOf};
-ghost use Rattle.imaging.specs.Shown.{cellLine, numberLine};
-ghost use Rattle.imaging.specs.Texts.{RunIs};
+ghost use Rattle.listing.specs.Shown.{cellLine, numberLine};
+ghost use Rattle.imaging.specs.Runs.{RunIs};
 ghost use Rattle.imaging.specs.Composed.{TextReadIs, Composed};
 
 // So many lines, and the place behind them.

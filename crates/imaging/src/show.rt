@@ -12,7 +12,7 @@ ghost use lib.ListN.{length};
 ghost use Rattle.cbor.specs.Code.{each};
 ghost use Rattle.image.specs.Words.{CellsAt, cellsOf, numbersOf};
 ghost use Rattle.answers.specs.Answer.{PutUpTo};
-ghost use Rattle.imaging.specs.Shown.{cellLine, numberLine, imageText, Shown};
+ghost use Rattle.listing.specs.Shown.{cellLine, numberLine, imageText, Shown};
 
 // A number's line, at a place with room for 34 bytes.
 fn put_number_line(out: &mut [u8], at: usize, k: u64) -> usize

@@ -22,7 +22,7 @@ use Rattle.lines.proofs.Feeding.{endedBy, leftBy, fed-more, fed-line, fed-long,
 use Rattle.answers.specs.Answer.{answerLine}
 use Rattle.steps.proofs.Exactly.{long-line}
 use Rattle.steps.specs.declared.parse.Step.{Step}
-use Rattle.stepping.specs.Program.{Reply, asked, replyTo, devicesOf, answerTo, written, answersTo, tableAfter}
+use Rattle.answering.specs.Program.{Reply, asked, replyTo, devicesOf, answerTo, written, answersTo, tableAfter}
 use Rattle.stepping.specs.Bytes.{Place, nothing, Told, heldBy, ByteFed}
 use Rattle.program.specs.Claims.{Holds, Fed·as·the·machine, Feeds·as·the·machine}
 use Rattle.program.proofs.Replies.{answers-as-the-machine}

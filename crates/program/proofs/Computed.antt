@@ -8,7 +8,7 @@ use Rattle.lines.specs.Lines.{lastOf, initOf, endsLine, nextOf, endedIn, pendin
 use Rattle.wording.specs.Values.{numberAt, signedAt, wordOf, updateBy, updateAt}
 use Rattle.wording.specs.Names.{kindOfAct, kindOf}
 use Rattle.steps.specs.Parse.{pairOf, countAt, countsOf, countsFit, startStep, readStep, updateStep, deviceStep, batchStep, stepOf, parseLine}
-use Rattle.stepping.specs.Program.{startFrom, answerTo, answersTo, outputOf}
+use Rattle.answering.specs.Program.{startFrom, answerTo, answersTo, outputOf}
 use Rattle.program.specs.CaseS.{Case·S}
 
 pub case-S : Case·S

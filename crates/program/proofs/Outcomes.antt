@@ -16,8 +16,8 @@ use Rattle.lines.specs.declared.Fed.{Fed}
 use Rattle.lines.specs.declared.Fed.the-variants.{More, Line, Long}
 use Rattle.steps.specs.Parse.{parseLine}
 use Rattle.answers.specs.Answer.{answerLine}
-use Rattle.stepping.specs.Program.{Asked, no·step, start, machine·step, asked}
-use Rattle.stepping.specs.Answered.{Small, StartedSmall, Does}
+use Rattle.answering.specs.Program.{Asked, no·step, start, machine·step, asked}
+use Rattle.answering.specs.Answered.{Small, StartedSmall, Does}
 use Rattle.stepping.specs.Bytes.{Place, Told, ByteFed, BytesFed}
 use Rattle.program.specs.Claims.{One·answer, One·chunk, One·end}
 use lib.ListN.{getD, take}

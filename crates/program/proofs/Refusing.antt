@@ -17,8 +17,8 @@ use Rattle.steps.specs.Grammar.{LineOf}
 use Rattle.steps.specs.Parse.{parseLine}
 use Rattle.steps.specs.declared.parse.Step.{Step}
 use Rattle.steps.proofs.Exactly.{is-step, step-is, no-step, none-step}
-use Rattle.stepping.specs.Program.{Reply, Asked, no·step, start, machine·step, asked, allowed, small, startFrom, stepFrom, replyTo, devicesOf, answerTo}
-use Rattle.stepping.specs.Answered.{Small}
+use Rattle.answering.specs.Program.{Reply, Asked, no·step, start, machine·step, asked, allowed, small, startFrom, stepFrom, replyTo, devicesOf, answerTo}
+use Rattle.answering.specs.Answered.{Small}
 use Rattle.program.specs.Claims.{Refusal·keeps·the·table, Refusals, Refused·exactly·when}
 use Rattle.program.proofs.Replies.{sizes-of, of-sizes, small-of, of-small}
 use Rattle.program.proofs.MachineAnswers.{isAnswer, step-answers}

@@ -21,8 +21,8 @@ use Rattle.words.specs.Layout.{DEVICES}
 use Rattle.table.specs.Table.{need, reading, IsTable}
 use Rattle.table.specs.Promise.{RefusedWith, Stepped}
 use Rattle.steps.specs.Parse.{parseLine}
-use Rattle.stepping.specs.Program.{Asked, no·step, start, machine·step, asked, allowed, small, startFrom, stepFrom, replyTo, devicesOf, answerTo, written, tableAfter}
-use Rattle.stepping.specs.Answered.{Small, StartedSmall, Does}
+use Rattle.answering.specs.Program.{Asked, no·step, start, machine·step, asked, allowed, small, startFrom, stepFrom, replyTo, devicesOf, answerTo, written, tableAfter}
+use Rattle.answering.specs.Answered.{Small, StartedSmall, Does}
 use Rattle.program.specs.Claims.{Zeros·hold·no·table, Reached, Holds, Answers·as·the·machine, Answers·every·line}
 
 -- an answer is written as it is meant

@@ -13,7 +13,7 @@ use Rattle.lines.specs.Held.{Held, LastIs, finishOf}
 use Rattle.lines.specs.declared.Fed.{Fed}
 use Rattle.lines.specs.declared.Fed.the-variants.{More, Line, Long}
 use Rattle.lines.proofs.Held.{held-none, last-is}
-use Rattle.stepping.specs.Program.{answersTo, tableAfter, outputOf}
+use Rattle.answering.specs.Program.{answersTo, tableAfter, outputOf}
 use Rattle.stepping.specs.Bytes.{Place, place, nothing, Told, BytesFed, ChunksFed}
 use Rattle.program.specs.Claims.{Holds, Fed·as·the·machine, Answers·a·chunk, whole, Whole·program, However·it·arrives}
 use Rattle.program.proofs.Bytewise.{answers-append, Replied, replied-none, replied-line, replied-long, feeds-as-the-machine}

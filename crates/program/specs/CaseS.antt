@@ -11,7 +11,7 @@ use Rattle.text.specs.Text.{decimalText, signedText}
 use Rattle.wording.specs.Names.{startText, updateText, readText, batchText, actText, addText}
 use Rattle.answers.specs.Answer.{answerLine}
 use Rattle.wording.specs.declared.names.Act.{Act}
-use Rattle.stepping.specs.Program.{outputOf}
+use Rattle.answering.specs.Program.{outputOf}
 
 -- a record and the CR LF that ends it; a step that names a device alone
 abbrev line : List ℕ → List ℕ

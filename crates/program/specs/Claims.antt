@@ -20,8 +20,8 @@ use Rattle.lines.specs.Lines.{endedIn, pendingAfter}
 use Rattle.lines.specs.Held.{Held, finishOf}
 use Rattle.steps.specs.Grammar.{LineOf}
 use Rattle.steps.specs.declared.parse.Step.{Step}
-use Rattle.stepping.specs.Program.{machine·step, asked, devicesOf, answerTo, written, answersTo, tableAfter, outputOf}
-use Rattle.stepping.specs.Answered.{Small, Answered}
+use Rattle.answering.specs.Program.{machine·step, asked, devicesOf, answerTo, written, answersTo, tableAfter, outputOf}
+use Rattle.answering.specs.Answered.{Small, Answered}
 use Rattle.stepping.specs.Bytes.{Place, nothing, Told, BytesFed, ChunkFed, Finished, ChunksFed}
 
 -- The table is reached by steps from a start.

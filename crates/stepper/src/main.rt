@@ -1,4 +1,5 @@
 // The step program: reads steps from standard input and writes an answer to each to standard output.
+use answering::line::WORDS;
 use libc::STDIN_FILENO;
 use libc::STDOUT_FILENO;
 use lines::Pending;
@@ -6,7 +7,6 @@ use lines::none;
 use stepping::feed::ANSWERS;
 use stepping::feed::feed_chunk;
 use stepping::feed::finish_input;
-use stepping::line::WORDS;
 
 // Whether the input goes on, and what is held of the line that is not ended.
 struct Turn {

@@ -18,7 +18,7 @@ use Rattle.lines.specs.declared.Fed.{Fed}
 use Rattle.lines.specs.declared.Fed.the-variants.{More, Line, Long}
 use Rattle.lines.proofs.Held as held
 use Rattle.answers.specs.Answer.{PutUpTo, answerLine}
-use Rattle.stepping.specs.Answered.{Answered}
+use Rattle.answering.specs.Answered.{Answered}
 use Rattle.stepping.specs.Bytes.{Place, place, Told, Within, heldBy, ByteFed, PutTold, PutByte, BytesFed, ChunkFed, Finished}
 
 -- a line that is told has at most 80 bytes

@@ -11,7 +11,7 @@ use Rattle.lines.specs.declared.Pending.{Pending}
 use Rattle.lines.specs.declared.Fed.{Fed}
 use Rattle.lines.specs.declared.Fed.the-variants.{More, Line, Long}
 use Rattle.answers.specs.Answer.{PutUpTo, answerLine}
-use Rattle.stepping.specs.Answered.{Answered}
+use Rattle.answering.specs.Answered.{Answered}
 
 -- The most bytes of a chunk that are fed at once.
 abbrev pub CHUNK : ℕ

@@ -3,7 +3,7 @@ ghost use mathlib.Core.Path.{_≡_};
 ghost use Prim.Native.Nat.{_+_, _≤_, min};
 ghost use lib.ListN.{length, take};
 ghost use Rattle.stepping.specs.Bytes.{CHUNK, place, heldBy, Within, PutTold, PutByte, ChunkFed, Finished};
-use crate::line::answer;
+use answering::line::answer;
 use answers::answer::put_answer_line;
 use lines::Fed;
 use lines::Pending;

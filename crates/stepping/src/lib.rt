@@ -1,3 +1,2 @@
-// The step program's body: the answer to a line, and the answers to the bytes of an input. Reading and writing are the program's.
+// The step program's body: the answers to the bytes of an input, as it arrives. Reading and writing are the program's.
 pub mod feed;
-pub mod line;

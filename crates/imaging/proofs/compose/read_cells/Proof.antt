@@ -11,8 +11,8 @@ use Rattle.record.specs.Reading.{queue}
 use Rattle.coding.specs.Item.{CellAllowed}
 use Rattle.image.specs.Words.{cellIn}
 use Rattle.image.proofs.Runs.{cells-stay, passed-more, passed-none, valid-more}
-use Rattle.imaging.specs.Shown.{cellLine}
-use Rattle.imaging.specs.Texts.{CellLineIs}
+use Rattle.listing.specs.Shown.{cellLine}
+use Rattle.listing.specs.Texts.{CellLineIs}
 use Rattle.imaging.proofs.compose.read_cells.Statement.{statement}
 use Rattle.imaging.proofs.compose.read_cells.Tie as tie
 

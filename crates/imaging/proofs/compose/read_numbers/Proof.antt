@@ -10,8 +10,8 @@ use Rattle.words.proofs.Places.{set-kept, set-new}
 use Rattle.record.specs.Reading.{queue}
 use Rattle.coding.specs.Image.{NumberAllowed}
 use Rattle.image.proofs.Runs.{passed-more, passed-none}
-use Rattle.imaging.specs.Shown.{numberLine}
-use Rattle.imaging.specs.Texts.{NumberLineIs}
+use Rattle.listing.specs.Shown.{numberLine}
+use Rattle.listing.specs.Texts.{NumberLineIs}
 use Rattle.imaging.proofs.compose.read_numbers.Statement.{statement}
 use Rattle.imaging.proofs.compose.read_numbers.Tie as tie
 

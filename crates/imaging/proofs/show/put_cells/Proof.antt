@@ -7,7 +7,7 @@ use Rattle.cbor.specs.Code.{each}
 use Rattle.record.specs.Reading.{queue}
 use Rattle.answers.specs.Answer.{PutUpTo}
 use Rattle.image.specs.Words.{cellIn}
-use Rattle.imaging.specs.Shown.{cellLine}
+use Rattle.listing.specs.Shown.{cellLine}
 use Rattle.imaging.proofs.Lines.{lines-more, lines-none}
 use native.Mathlib.Omega.{arith}
 use Rattle.imaging.proofs.show.put_cells.Statement.{statement}

@@ -1,7 +1,7 @@
 -- `imaging::show::put_image` meets its contract: the cells' lines, then the numbers'.
 -- Assumes nothing.
 use Rattle.text.proofs.PutLaws.{put-then}
-use Rattle.imaging.specs.Shown.{imageText}
+use Rattle.listing.specs.Shown.{imageText}
 use native.Mathlib.Omega.{arith}
 use borrow.Author.Needs.{needs}
 use Rattle.imaging.proofs.show.put_image.Statement.{statement}

@@ -2,7 +2,7 @@
 -- Assumes nothing.
 use Rattle.text.proofs.DecimalText.{decimal-length}
 use Rattle.text.proofs.PutLaws.{put-then}
-use Rattle.imaging.specs.Shown.{numberLine, numberRecord}
+use Rattle.listing.specs.Shown.{numberLine, numberRecord}
 use native.Mathlib.Omega.{arith}
 use borrow.Author.Needs.{needs}
 use Rattle.imaging.proofs.show.put_number_line.Statement.{statement}

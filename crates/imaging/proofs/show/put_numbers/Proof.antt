@@ -6,7 +6,7 @@ use lib.ListN.{getD, length}
 use Rattle.cbor.specs.Code.{each}
 use Rattle.record.specs.Reading.{queue}
 use Rattle.answers.specs.Answer.{PutUpTo}
-use Rattle.imaging.specs.Shown.{numberLine}
+use Rattle.listing.specs.Shown.{numberLine}
 use Rattle.imaging.proofs.Lines.{lines-more, lines-none}
 use native.Mathlib.Omega.{arith}
 use Rattle.imaging.proofs.show.put_numbers.Statement.{statement}
