@@ -1,92 +1,21 @@
 // Pastes blocks that are good, empty and bad, in turn, to one table of two devices and four cells. A line for each: what it is, what the call
-// answers, and each word that it changed, with the new value. Last come the cells that device 0 reads, each by its kind and its payload.
+// answers, and each word that it changed, with the new value. Last come the cells that device 0 reads.
 ghost use Prim.Native.Nat.{_≤_};
 use block::Entry;
 use block::block_of;
 use cells::Cell;
 use cells::Update;
-use cells::measured::bits_of_f64;
-use cells::measured::is_finite;
-use cells::signed::bits_of_i64;
-use cells::stored::cell_kind;
-use protocol::Refusal;
-use sheet::Answer;
+use libc::STDOUT_FILENO;
+use showing::show_answer;
+use showing::show_changes;
+use showing::write;
 use table::begin::start;
 use table::calls::read;
-
-const OUT: i32 = 1;
+use words::layout::RECORD;
+use words::layout::RECORDS;
 
 // The need of two devices, and two words past it.
-const ROOM: usize = 7512;
-
-fn write(text: &[u8]) {
-    io::write_all(OUT, text);
-}
-
-fn show_refusal(r: Refusal) {
-    write(b" refused,");
-    io::print_decimal(OUT, sheet::number_of(r));
-}
-
-fn show_cell(c: Cell) {
-    write(b" kind ");
-    io::print_decimal(OUT, cell_kind(c));
-    match c {
-        Cell::Blank => write(b""),
-        Cell::Count(n) => {
-            write(b" ");
-            io::print_hex(OUT, bits_of_i64(n), 16);
-        }
-        Cell::Measure(x) => {
-            if is_finite(x) {
-                write(b" ");
-                io::print_hex(OUT, bits_of_f64(x), 16);
-            }
-        }
-    }
-}
-
-fn show_answer(a: Answer) {
-    match a {
-        Answer::Done => write(b" done"),
-        Answer::Refused(r) => show_refusal(r),
-        Answer::RefusedAt(r, k) => {
-            show_refusal(r);
-            write(b" at ");
-            io::print_decimal(OUT, k);
-        }
-        Answer::Value(c) => show_cell(c),
-        Answer::Yes => write(b" yes"),
-        Answer::No => write(b" no"),
-        Answer::Moved(_) => write(b" moved"),
-        Answer::Length(_) => write(b" length"),
-    }
-}
-
-fn show_word(i: usize, v: u64) {
-    write(b" ");
-    io::print_decimal(OUT, i as u64);
-    write(b"=");
-    io::print_decimal(OUT, v);
-}
-
-// Shows each word of t that is another in old, or that all were kept.
-fn show_changes(t: &[u64], old: &[u64]) {
-    let mut kept = true;
-    let mut i = 0;
-    while i < t.len() {
-        if i < old.len() {
-            if t[i] != old[i] {
-                show_word(i, t[i]);
-                kept = false;
-            }
-        }
-        i += 1;
-    }
-    if kept {
-        write(b" kept");
-    }
-}
+const ROOM: usize = RECORDS + RECORD * 2 + 2;
 
 // Pastes the first k of the entries to device d.
 fn paste(what: &[u8], t: [u64; ROOM], d: u64, entries: [Entry; 4], k: usize) -> [u64; ROOM]
@@ -95,7 +24,7 @@ fn paste(what: &[u8], t: [u64; ROOM], d: u64, entries: [Entry; 4], k: usize) -> 
     let mut now = t;
     let a = block_of(&mut now, d, entries, k);
     write(what);
-    write(b":");
+    write(b": ");
     show_answer(a);
     show_changes(&now, &t);
     write(b"\n");
@@ -120,8 +49,8 @@ fn unbounded() -> f64 {
 
 fn show_read(t: &[u64], cell: u64) {
     write(b"cell ");
-    io::print_decimal(OUT, cell);
-    write(b":");
+    io::print_decimal(STDOUT_FILENO, cell);
+    write(b": ");
     show_answer(read(t, 0, cell));
     write(b"\n");
 }

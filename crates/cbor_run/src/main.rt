@@ -7,22 +7,21 @@ use cells::Cell;
 use coding::cell::CellRead;
 use image::opening::open_image;
 use image::writing::write_image;
+use libc::STDOUT_FILENO;
 use sheet::Answer;
 use words::layout::CELLS;
 use words::layout::DEVICES;
 ghost use Prim.Native.Nat.{_≤_, _<_};
 ghost use lib.ListN.{length};
 
-const OUT: i32 = 1;
-
 fn word(name: &[u8], n: u64) {
-    io::write_all(OUT, name);
-    io::print_hex(OUT, n, 16);
+    io::write_all(STDOUT_FILENO, name);
+    io::print_hex(STDOUT_FILENO, n, 16);
 }
 
 fn number(name: &[u8], n: u64) {
-    io::write_all(OUT, name);
-    io::print_decimal(OUT, n);
+    io::write_all(STDOUT_FILENO, name);
+    io::print_decimal(STDOUT_FILENO, n);
 }
 
 fn show_token(t: Token) {
@@ -31,7 +30,7 @@ fn show_token(t: Token) {
         Token::Negative(a) => word(b" negative,", a),
         Token::Array(a) => word(b" array,", a),
         Token::Null => {
-            io::write_all(OUT, b" null");
+            io::write_all(STDOUT_FILENO, b" null");
         }
         Token::Float(b) => word(b" float,", b),
     }
@@ -45,7 +44,7 @@ fn step(s: &[u8], at: usize) -> usize {
             next
         }
         Read::Absent => {
-            io::write_all(OUT, b" refused");
+            io::write_all(STDOUT_FILENO, b" refused");
             s.len()
         }
     }
@@ -65,12 +64,12 @@ fn show_tokens(s: &[u8]) {
 
 fn show_cell(s: &[u8]) {
     let CellRead::CellAt(c, _) = coding::cell::read_cell(s, 0) else {
-        io::write_all(OUT, b" no cell");
+        io::write_all(STDOUT_FILENO, b" no cell");
         return;
     };
     match c {
         Cell::Blank => {
-            io::write_all(OUT, b" blank");
+            io::write_all(STDOUT_FILENO, b" blank");
         }
         Cell::Count(n) => word(b" count,", cells::signed::bits_of_i64(n)),
         Cell::Measure(x) => {
@@ -85,7 +84,7 @@ fn show_cell(s: &[u8]) {
 fn show_image(s: &[u8]) {
     let mut t = [0u64; 29650];
     let Answer::Done = open_image(&mut t, s) else {
-        io::write_all(OUT, b" no image");
+        io::write_all(STDOUT_FILENO, b" no image");
         return;
     };
     number(b" cells,", t[CELLS]);
@@ -98,20 +97,20 @@ fn show_image(s: &[u8]) {
     if k <= 620 {
         let n = k as usize;
         if check::same(&out[..n], s) {
-            io::write_all(OUT, b" same");
+            io::write_all(STDOUT_FILENO, b" same");
         }
     }
 }
 
 fn show(name: &[u8], s: &[u8]) {
-    io::write_all(OUT, name);
-    io::write_all(OUT, b":");
+    io::write_all(STDOUT_FILENO, name);
+    io::write_all(STDOUT_FILENO, b":");
     show_tokens(s);
-    io::write_all(OUT, b" /");
+    io::write_all(STDOUT_FILENO, b" /");
     show_cell(s);
-    io::write_all(OUT, b" /");
+    io::write_all(STDOUT_FILENO, b" /");
     show_image(s);
-    io::write_all(OUT, b"\n");
+    io::write_all(STDOUT_FILENO, b"\n");
 }
 
 fn digit(b: u8) -> u8

@@ -12,32 +12,32 @@ use cells::signed::bits_of_i64;
 use cells::signed::i64_of_bits;
 use cells::stored::cell_kind;
 use cells::stored::change_words_ok;
+use libc::STDOUT_FILENO;
+use showing::write;
 
 mod runs;
 
-const OUT: i32 = 1;
-
 fn word(what: &[u8], n: u64) {
-    io::write_all(OUT, what);
-    io::write_all(OUT, b": ");
-    io::print_hex(OUT, n, 16);
-    io::write_all(OUT, b"\n");
+    write(what);
+    write(b": ");
+    io::print_hex(STDOUT_FILENO, n, 16);
+    write(b"\n");
 }
 
 fn verdict(what: &[u8], b: bool) {
-    io::write_all(OUT, what);
+    write(what);
     if b {
-        io::write_all(OUT, b": yes\n");
+        write(b": yes\n");
     } else {
-        io::write_all(OUT, b": no\n");
+        write(b": no\n");
     }
 }
 
 // A cell by its kind and its payload; a measured number that is not finite has no word.
 fn show(what: &[u8], c: Cell) {
-    io::write_all(OUT, what);
-    io::write_all(OUT, b": kind ");
-    io::print_hex(OUT, cell_kind(c), 1);
+    write(what);
+    write(b": kind ");
+    io::print_hex(STDOUT_FILENO, cell_kind(c), 1);
     match c {
         Cell::Blank => word(b"", 0),
         Cell::Count(n) => word(b"", bits_of_i64(n)),
@@ -45,7 +45,7 @@ fn show(what: &[u8], c: Cell) {
             if is_finite(x) {
                 word(b"", bits_of_f64(x));
             } else {
-                io::write_all(OUT, b": not finite\n");
+                write(b": not finite\n");
             }
         }
     }

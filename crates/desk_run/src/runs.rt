@@ -1,8 +1,11 @@
 // Document 01's "Run" lines: "push 1,000,000 done, next 9; accept and 8 batches, each moving a round, unread, leave 8 items".
-use answers::answer::put_answer;
+use libc::STDOUT_FILENO;
 use server::calls::accept;
 use server::calls::batch;
 use sheet::Answer;
+use showing::is_done;
+use showing::show_answer;
+use showing::write;
 use table::begin::start;
 use table::calls::ask;
 use table::calls::push;
@@ -11,49 +14,28 @@ use table::calls::send;
 use words::layout::RECORD;
 use words::layout::RECORDS;
 
-const OUT: i32 = 1;
-
 const ROOM: usize = RECORDS + RECORD * 2;
 
 fn answered(what: &[u8], a: Answer) {
-    let mut out = [0u8; 32];
-    let k = put_answer(&mut out, 0, a);
-    io::write_all(OUT, what);
-    io::write_all(OUT, b": ");
-    io::write_all(OUT, &out[..k]);
-    io::write_all(OUT, b"\n");
+    write(what);
+    write(b": ");
+    show_answer(a);
+    write(b"\n");
 }
 
-fn is_done(a: Answer) -> bool {
-    match a {
-        Answer::Done => true,
-        Answer::Refused(_) => false,
-        Answer::Value(_) => false,
-        Answer::Yes => false,
-        Answer::No => false,
-        Answer::Moved(_) => false,
-        Answer::Length(_) => false,
-        Answer::RefusedAt(_, _) => false,
+// Device 0 receives, or pushes; tells whether it was done.
+fn goes(t: &mut [u64], receives: bool) -> bool {
+    if receives {
+        return is_done(receive(t, 0));
     }
+    is_done(push(t, 0))
 }
 
-// Pushes n times at most, as long as it is done; tells how often it was.
-fn push_on(t: &mut [u64], n: u64) -> u64 {
+// The same n times at most, as long as it is done; tells how often it was.
+fn goes_on(t: &mut [u64], receives: bool, n: u64) -> u64 {
     let mut i = 0;
     while i < n {
-        if !is_done(push(t, 0)) {
-            return i;
-        }
-        i += 1;
-    }
-    i
-}
-
-// Receives n times at most, as long as it is done; tells how often it was.
-fn receive_on(t: &mut [u64], n: u64) -> u64 {
-    let mut i = 0;
-    while i < n {
-        if !is_done(receive(t, 0)) {
+        if !goes(t, receives) {
             return i;
         }
         i += 1;
@@ -62,16 +44,16 @@ fn receive_on(t: &mut [u64], n: u64) -> u64 {
 }
 
 fn tell(what: &[u8], n: u64) {
-    io::write_all(OUT, what);
-    io::write_all(OUT, b": ");
-    io::print_decimal(OUT, n);
-    io::write_all(OUT, b"\n");
+    write(what);
+    write(b": ");
+    io::print_decimal(STDOUT_FILENO, n);
+    write(b"\n");
 }
 
 fn pushes() {
     let mut t = [0u64; ROOM];
     answered(b"start", start(&mut t, 1, 1));
-    tell(b"pushes done", push_on(&mut t, 2000000));
+    tell(b"pushes done", goes_on(&mut t, false, 2000000));
     answered(b"next push", push(&mut t, 0));
 }
 
@@ -99,7 +81,7 @@ fn items() {
     ask(&mut t, 0);
     answered(b"accept 0", accept(&mut t, 0));
     eight_batches(&mut t);
-    tell(b"items received", receive_on(&mut t, 100));
+    tell(b"items received", goes_on(&mut t, true, 100));
     answered(b"next receive", receive(&mut t, 0));
 }
 

@@ -13,11 +13,13 @@ use libc::STDOUT_FILENO;
 use probing::probe;
 use sheet::Answer;
 use sheet::number_of;
+use words::layout::RECORD;
+use words::layout::RECORDS;
 
 // Enough for nine devices, and some words past them.
-const ROOM: usize = 33400;
+const ROOM: usize = RECORDS + RECORD * 9 + 60;
 
-const BYTES: usize = 267200;
+const BYTES: usize = ROOM * 8;
 
 const HEAD: usize = 7;
 

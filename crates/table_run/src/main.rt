@@ -2,16 +2,18 @@
 // before each: the word that fills the room, how many words are lent to start, its devices and cells, how many words are lent to push, the
 // device that pushes, and the pokes, an index and a value each. The answer has the name, whether the contents are a table, what push
 // answers, and each word that it changed, with the new value.
-use protocol::Refusal;
-use sheet::Answer;
+use showing::is_done;
+use showing::show_answer;
+use showing::show_changes;
+use showing::write;
 use table::begin::start;
 use table::calls::push;
 use table::check::is_table;
-
-const OUT: i32 = 1;
+use words::layout::RECORD;
+use words::layout::RECORDS;
 
 // Enough for nine devices, and some words past them.
-const ROOM: usize = 33400;
+const ROOM: usize = RECORDS + RECORD * 9 + 60;
 
 // What is read of a line: the place of the number that is being read (0 in the name, 1 at the first space, 8 and 9 for a poke), the number so far,
 // and the numbers that are kept.
@@ -34,67 +36,6 @@ fn begun() -> Line {
         device: 0,
         index: 0,
         started: false,
-    }
-}
-
-fn write(text: &[u8]) {
-    io::write_all(OUT, text);
-}
-
-fn show_refusal(r: Refusal) {
-    write(b" refused,");
-    io::print_decimal(OUT, sheet::number_of(r));
-}
-
-// What start or push answered: done or a refusal, since they have no other answers.
-fn show_answer(a: Answer) {
-    match a {
-        Answer::Done => write(b" done"),
-        Answer::Refused(r) => show_refusal(r),
-        Answer::Value(_) => write(b" value"),
-        Answer::Yes => write(b" yes"),
-        Answer::No => write(b" no"),
-        Answer::Moved(_) => write(b" moved"),
-        Answer::Length(_) => write(b" length"),
-        Answer::RefusedAt(_, _) => write(b" refused at"),
-    }
-}
-
-fn is_done(a: Answer) -> bool {
-    match a {
-        Answer::Done => true,
-        Answer::Refused(_) => false,
-        Answer::Value(_) => false,
-        Answer::Yes => false,
-        Answer::No => false,
-        Answer::Moved(_) => false,
-        Answer::Length(_) => false,
-        Answer::RefusedAt(_, _) => false,
-    }
-}
-
-fn show_word(i: usize, v: u64) {
-    write(b" ");
-    io::print_decimal(OUT, i as u64);
-    write(b"=");
-    io::print_decimal(OUT, v);
-}
-
-// Shows each word of t that is another in old, or that all were kept.
-fn show_changes(t: &[u64], old: &[u64]) {
-    let mut kept = true;
-    let mut i = 0;
-    while i < t.len() {
-        if i < old.len() {
-            if t[i] != old[i] {
-                show_word(i, t[i]);
-                kept = false;
-            }
-        }
-        i += 1;
-    }
-    if kept {
-        write(b" kept");
     }
 }
 
@@ -129,16 +70,16 @@ fn started(t: &mut [u64], lent: usize, devices: u64, cells: u64) -> bool {
     if is_done(a) {
         return true;
     }
-    write(b" start");
+    write(b" start ");
     show_answer(a);
     false
 }
 
 fn show_verdict(b: bool) {
     if b {
-        write(b" table");
+        write(b" table ");
     } else {
-        write(b" no table");
+        write(b" no table ");
     }
 }
 

@@ -1,11 +1,11 @@
--- `block_run::show_changes` is safe and ends: each turn looks at one word more.
+-- `showing::show_changes` is safe and ends: each turn looks at one word more.
 -- Assumes nothing.
 use Prim.Native.Nat.{_≤_, _-_}
 use native.Mathlib.Omega.{arith}
 use borrow.Author.Needs.{needs}
 use lib.ListN.{length}
-use Rattle.block_run.proofs.show_changes.Statement.{statement}
-use Rattle.block_run.proofs.show_changes.Tie as tie
+use Rattle.showing.proofs.show_changes.Statement.{statement}
+use Rattle.showing.proofs.show_changes.Tie as tie
 
 abbrev Inv-loop : tie.InvT-loop
 Inv-loop t old kept₀ i₀ t5 kept i = i ≤ length t

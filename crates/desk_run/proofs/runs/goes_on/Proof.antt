@@ -1,27 +1,24 @@
--- `desk_run::runs::push_on` is safe and ends: each turn makes one call more.
+-- `desk_run::runs::goes_on` is safe and ends: each turn makes one call more.
 -- Assumes nothing.
 use mathlib.Core.Path.{_≡_}
 use Prim.Native.Nat.{_≤_, _-_}
 use native.Mathlib.Omega.{arith}
 use borrow.Author.Needs.{needs}
 use lib.ListN.{length}
-use Rattle.desk_run.proofs.runs.push_on.Statement.{statement}
-use Rattle.desk_run.proofs.runs.push_on.Tie as tie
+use Rattle.desk_run.proofs.runs.goes_on.Statement.{statement}
+use Rattle.desk_run.proofs.runs.goes_on.Tie as tie
 
 abbrev Inv-loop : tie.InvT-loop
-Inv-loop t₀ n i₀ t i = (i ≤ n) × (length t ≡ length t₀)
+Inv-loop t₀ receives n i₀ t i = (i ≤ n) × (length t ≡ length t₀)
 
 abbrev μ-loop : tie.MeasureT-loop
-μ-loop t₀ n i₀ t i = n - i
+μ-loop t₀ receives n i₀ t i = n - i
 
 loop-holds : tie.Need-loop-holds Inv-loop μ-loop
 loop-holds c = omega arith
 
-push-requires : tie.Need-push-requires Inv-loop μ-loop
-push-requires c κs = search needs
-
-is-done-requires : tie.Need-is-done-requires Inv-loop μ-loop
-is-done-requires c κs = search needs
+goes-requires : tie.Need-goes-requires Inv-loop μ-loop
+goes-requires c κs = search needs
 
 same-length : tie.Need-same-length Inv-loop μ-loop
 same-length c = omega arith
@@ -44,15 +41,14 @@ same-length-2 c = omega arith
 returns-2 : tie.Need-returns-2 Inv-loop μ-loop
 returns-2 c = search needs
 
-pub push-on-spec : {M : Type 1} → statement M
-push-on-spec =
+pub goes-on-spec : {M : Type 1} → statement M
+goes-on-spec =
     tie.close
     (tie.spec
     Inv-loop
     μ-loop
     loop-holds
-    push-requires
-    is-done-requires
+    goes-requires
     same-length
     returns
     add-i
