@@ -101,13 +101,12 @@ def range_faults(words, d, devices, cells):
     return faults
 
 
-def condition_faults(words, d):
-    """The numbered conditions of docs/TABLE.md that the record of device d breaks, where its single words are in range."""
+def round_faults(words, d):
+    """Conditions 1 to 3: the numbers of a device's rounds."""
     r, faults = record(d), set()
-    last, taken, channel, request, connection, covered, pendings, waitings, items = words[r:r + 9]
+    last, taken, covered, pendings, waitings = (words[r + k] for k in (LAST, TAKEN, COVERED, PENDING_LENGTH, WAITING_LENGTH))
     pending = [words[round_at(PENDING, d, j)] for j in range(pendings)]
     waiting = [words[round_at(WAITING, d, j)] for j in range(waitings)]
-    kinds = [words[item_at(d, j)] for j in range(items)]
     if pending and pending[0] == 0:
         faults.add('1: a pending number is 0')
     if any(a >= b for a, b in zip(pending, pending[1:])):
@@ -124,7 +123,15 @@ def condition_faults(words, d):
         faults.add('3: more rounds wait than are pending')
     elif waiting != pending[pendings - waitings:]:
         faults.add('3: waiting numbers are those of the last pending rounds')
-    if connection != STALE and channel != ESTABLISHED and waiting:
+    return faults
+
+
+def link_faults(words, d):
+    """Conditions 4 to 9: a device's channel, its request, its connection, and what waits."""
+    r, faults = record(d), set()
+    channel, request, connection, waitings, items = (words[r + k] for k in (CHANNEL, REQUEST, CONNECTION, WAITING_LENGTH, ITEMS_LENGTH))
+    kinds = [words[item_at(d, j)] for j in range(items)]
+    if connection != STALE and channel != ESTABLISHED and waitings:
         faults.add('4: a round waits on a channel not established')
     if request and channel != ASKED:
         faults.add('5: a request without such a channel')
@@ -145,6 +152,11 @@ def condition_faults(words, d):
     if channel == ESTABLISHED and connection == STALE:
         faults.add('9: a stale connection beside an established channel')
     return faults
+
+
+def condition_faults(words, d):
+    """The numbered conditions of docs/TABLE.md that the record of device d breaks, where its single words are in range."""
+    return round_faults(words, d) | link_faults(words, d)
 
 
 def faults(words):

@@ -1,4 +1,4 @@
-"""A strict reader of stored images and of their texts, written from document 01 alone: the judge of tests/images/compare."""
+"""A strict reader of stored images and of their texts, written from document 01 and, for the text, docs/DECISIONS.md alone: the judge of tests/images/compare."""
 import re
 
 BLANK, FLOAT, CELLS, DEVICES, PUSHES = 0xF6, 0xFB, 64, 8, 1000000
