@@ -10,7 +10,7 @@ use Rattle.protocol.specs.declared.Refusal.the-variants.{NoTable, OutsideAllowe
 use Rattle.protocol.specs.Machine.{Table, choose, fresh, step, done, refused}
 use Rattle.protocol.specs.Machine as machine
 use Rattle.sheet.specs.Sheet.{sheet, started}
-use Rattle.sheet.specs.declared.Answer.{Answer}
+use Rattle.sheet.specs.Answer.{written}
 use Rattle.device.specs.Named.{updateOf}
 use Rattle.lines.specs.Lines.{linesOf}
 use Rattle.steps.specs.Parse.{parseLine}
@@ -87,17 +87,6 @@ devicesOf (some t) = t .devices
 -- "13, which goes before all others"
 unfoldable pub answerTo : Option (Table sheet) → List ℕ → Reply
 answerTo s line = replyTo s (asked (parseLine (devicesOf s) line))
-
--- The answer of the code whose text is printed.
-abbrev pub written : machine.Answer sheet → Answer
-written done = Answer.Done
-written machine.says·yes = Answer.Yes
-written machine.says·no = Answer.No
-written (machine.value c) = Answer.Value c
-written (machine.moved k) = Answer.Moved k
-written (machine.length·is k) = Answer.Length k
-written (refused r) = Answer.Refused r
-written (machine.refusedAt r k) = Answer.RefusedAt r k
 
 -- "Answers, one per line": to lines in order, and the table after them
 unfoldable pub answersTo : Option (Table sheet) → List (List ℕ) → List ℕ

@@ -17,10 +17,10 @@ use Rattle.sheet.specs.Changes.{CellUpdate}
 use Rattle.sheet.specs.Sheet.{sheet}
 use Rattle.sheet.specs.declared.Answer.{Answer}
 use Rattle.sheet.specs.declared.Answer.the-variants.{Done, RefusedAt}
+use Rattle.record.proofs.SameQueues.{SameQueues}
 use Rattle.table.proofs.Records.{put-same}
 use Rattle.block.specs.Block.{updateIn, updatesIn, refusalOf}
 use Rattle.block.specs.declared.Entry.{Entry}
-use Rattle.block.proofs.Shape.{Alike}
 
 -- The answer of a block by its first bad update, from the position i on.
 abbrev pub byRefusal : Option Refusal → ℕ → Answer → Answer
@@ -146,9 +146,9 @@ module _ (t : Table sheet) (d : ℕ) where
       go e l true q = subst (λ (c : ℕ). FitsDevice sheet (t .devices) (t .taken e) (opened (t .device c) b)) (eqb-true e d q) (fits-opened (t .devices) (t .taken e) (t .device e) b (F .each e l))
       go e l false q = F .each e l
 
-  pub alike-placed : (a b : ℕ → Change) (e : ℕ) → Alike (placed d (opened (t .device d) a) t .device e) (placed d (opened (t .device d) b) t .device e)
+  pub alike-placed : (a b : ℕ → Change) (e : ℕ) → SameQueues (placed d (opened (t .device d) a) t .device e) (placed d (opened (t .device d) b) t .device e)
   alike-placed a b e = go (eqb e d)
     where
-      go : (y : Bool) → Alike (choose y (opened (t .device d) a) (t .device e)) (choose y (opened (t .device d) b) (t .device e))
+      go : (y : Bool) → SameQueues (choose y (opened (t .device d) a) (t .device e)) (choose y (opened (t .device d) b) (t .device e))
       go true = record { received = refl; pending = refl; link = refl }
       go false = record { received = refl; pending = refl; link = refl }

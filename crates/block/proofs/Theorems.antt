@@ -8,7 +8,7 @@ use native.Mathlib.Omega.{arith}
 use Rattle.cells.specs.declared.Change.{Change}
 use Rattle.protocol.specs.declared.Refusal.{Refusal}
 use Rattle.protocol.specs.declared.Refusal.the-variants.{NoTable, NoDevice}
-use Rattle.protocol.specs.Machine.{Device, Table, Result, joined, step, run, done, refused, refusedAt}
+use Rattle.protocol.specs.Machine.{Device, Table, Result, joined, step, run, refused, refusedAt}
 use Rattle.protocol.specs.Machine as machine
 use Rattle.protocol.specs.History.{Every}
 use Rattle.protocol.specs.Claims.{joinUpdates}
@@ -16,7 +16,7 @@ use Rattle.protocol.specs.Refusals.{FirstBad as FirstBadOn}
 use Rattle.sheet.specs.Sheet.{sheet}
 use Rattle.sheet.specs.declared.Answer.{Answer}
 use Rattle.sheet.specs.declared.Answer.the-variants.{Done, RefusedAt}
-use Rattle.sheet.proofs.OneAnswer.{meaning-one}
+use Rattle.sheet.proofs.OneAnswer.{meaning-one, done-refused}
 use Rattle.sheet.proofs.Theorem.{refused-exactly-when, refusal-changes-nothing}
 use Rattle.words.proofs.Places.{lt-or-ge}
 use Rattle.table.specs.Table.{reading, IsTable}
@@ -30,9 +30,6 @@ use Rattle.block.proofs.Joins.{byRefusal, firstBad, opened, placed, pla
 module _ (m : machine.Answer sheet) where
   device-table : m ≡ refused NoDevice → m ≡ refused NoTable → ⊥
   device-table p q = let z : _≡_ {A = ℕ} 0 1 = cc in omega arith
-
-  done-refused : (r : Refusal) → m ≡ done → m ≡ refused r → ⊥
-  done-refused r p q = let z : _≡_ {A = ℕ} 0 1 = cc in omega arith
 
   at-refused : (r q : Refusal) (k : ℕ) → m ≡ refusedAt r k → m ≡ refused q → ⊥
   at-refused r q k e f = let z : _≡_ {A = ℕ} 0 1 = cc in omega arith

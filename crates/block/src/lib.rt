@@ -12,7 +12,7 @@ ghost use Rattle.table.specs.Promise.{Stepped};
 ghost use Rattle.block.specs.Block.{updatesIn, refusalOf, lookedAt, Begins, Turned};
 use cells::Update;
 use cells::stored::is_finite_update;
-use device::step::Op;
+use device::step::Operation;
 use protocol::Refusal;
 use sheet::Answer;
 use table::calls::on_known;
@@ -110,7 +110,7 @@ fn turn(t: &mut [u64], d: u64, n: usize, e: Entry, w: Walk) -> Walk
         return look(t[CELLS], n, at, e);
     }
     let u = e.update;
-    let answer = on_known(t, d, Op::Update(e.cell, u));
+    let answer = on_known(t, d, Operation::Update(e.cell, u));
     Walk {
         on: at + 1 < n,
         at: at + 1,

@@ -2,7 +2,7 @@
 ghost use mathlib.Core.Path.{_≡_};
 ghost use Prim.Native.Nat.{_≤_};
 ghost use lib.ListN.{length};
-ghost use Rattle.words.specs.Layout.{RECORD};
+ghost use Rattle.words.specs.Layout.{MOST·CELLS, MOST·DEVICES, RECORD};
 ghost use Rattle.words.specs.Place.{Decides};
 ghost use Rattle.record.specs.Conditions.{Sheets};
 ghost use Rattle.record.specs.Valid.{IsRecord};
@@ -26,7 +26,7 @@ use words::layout::WAITING_LENGTH;
 
 // Whether the known sheet, the open transaction, the push buffer and the receive buffer are valid.
 fn are_sheets(r: &[u64], devices: usize, cells: usize) -> bool
-    requires { ⌜ (length (now r) ≡ RECORD) × (devices ≤ 8) × (cells ≤ 64) ⌝ }
+    requires { ⌜ (length (now r) ≡ RECORD) × (devices ≤ MOST·DEVICES) × (cells ≤ MOST·CELLS) ⌝ }
     ensures { λ b. ⌜ Decides b (Sheets devices cells (now (r .entry))) ⌝ }
 {
     if !are_cells(r, KNOWN, cells) {
@@ -45,7 +45,7 @@ fn are_sheets(r: &[u64], devices: usize, cells: usize) -> bool
 }
 
 pub fn is_record(r: &[u64], devices: usize, cells: usize) -> bool
-    requires { ⌜ (length (now r) ≡ RECORD) × (devices ≤ 8) × (cells ≤ 64) ⌝ }
+    requires { ⌜ (length (now r) ≡ RECORD) × (devices ≤ MOST·DEVICES) × (cells ≤ MOST·CELLS) ⌝ }
     ensures { λ b. ⌜ Decides b (IsRecord devices cells (now (r .entry))) ⌝ }
 {
     if !are_singles(r) {

@@ -1,8 +1,8 @@
 // The entries of a record's queues.
 ghost use mathlib.Core.Path.{_≡_};
-ghost use Prim.Native.Nat.{ℕ, _+_, _*_, _≤_, _<_};
+ghost use Prim.Native.Nat.{ℕ, _+_, _≤_, _<_};
 ghost use lib.ListN.{length, getD};
-ghost use Rattle.words.specs.Layout.{ITEM, ITEMS, PENDING·LENGTH, RECORD, WAITING·LENGTH};
+ghost use Rattle.words.specs.Layout.{ITEM, MOST·CELLS, MOST·DEVICES, PENDING·LENGTH, QUEUE, RECORD, WAITING·LENGTH};
 ghost use Rattle.words.specs.Place.{Decides};
 ghost use Rattle.record.specs.Conditions.{NumbersIn, GoodItem, DueKind, DueItem, GoodPending, GoodWaiting};
 use words::check::are_cells;
@@ -46,7 +46,7 @@ fn are_numbers(r: &[u64], at: usize, n: usize, least: u64) -> bool
 
 // Whether the words from `at` on are an item's.
 pub fn is_item(r: &[u64], at: usize, devices: usize, cells: usize) -> bool
-    requires { ⌜ (at + ITEM ≤ length (now r)) × (devices ≤ 8) × (cells ≤ 64) ⌝ }
+    requires { ⌜ (at + ITEM ≤ length (now r)) × (devices ≤ MOST·DEVICES) × (cells ≤ MOST·CELLS) ⌝ }
     ensures { λ b. ⌜ Decides b (GoodItem devices cells (now (r .entry)) at) ⌝ }
 {
     let kind = r[at];
@@ -79,7 +79,7 @@ fn is_due(kind: u64, j: usize, channel: u64) -> bool
 
 // Whether the j-th item is one, and may stand there.
 fn is_due_item(r: &[u64], j: usize, devices: usize, cells: usize) -> bool
-    requires { ⌜ (length (now r) ≡ RECORD) × (j < 8) × (devices ≤ 8) × (cells ≤ 64) ⌝ }
+    requires { ⌜ (length (now r) ≡ RECORD) × (j < QUEUE) × (devices ≤ MOST·DEVICES) × (cells ≤ MOST·CELLS) ⌝ }
     ensures { λ b. ⌜ Decides b (DueItem devices cells (now (r .entry)) j) ⌝ }
 {
     let at = ITEMS + ITEM * j;
@@ -91,7 +91,7 @@ fn is_due_item(r: &[u64], j: usize, devices: usize, cells: usize) -> bool
 
 // Whether the first n items are.
 pub fn are_items(r: &[u64], n: usize, devices: usize, cells: usize) -> bool
-    requires { ⌜ (length (now r) ≡ RECORD) × (n ≤ 8) × (devices ≤ 8) × (cells ≤ 64) ⌝ }
+    requires { ⌜ (length (now r) ≡ RECORD) × (n ≤ QUEUE) × (devices ≤ MOST·DEVICES) × (cells ≤ MOST·CELLS) ⌝ }
     ensures { λ b. ⌜ Decides b ((j : ℕ) → j < n → DueItem devices cells (now (r .entry)) j) ⌝ }
 {
     let mut j = 0;
@@ -106,7 +106,7 @@ pub fn are_items(r: &[u64], n: usize, devices: usize, cells: usize) -> bool
 
 // Whether the j-th pending round is numbered above the one before it and not past the last push, and its changes are valid.
 fn is_pending(r: &[u64], j: usize, cells: usize) -> bool
-    requires { ⌜ (length (now r) ≡ RECORD) × (j < 8) × (cells ≤ 64) ⌝ }
+    requires { ⌜ (length (now r) ≡ RECORD) × (j < QUEUE) × (cells ≤ MOST·CELLS) ⌝ }
     ensures { λ b. ⌜ Decides b (GoodPending cells (now (r .entry)) j) ⌝ }
 {
     let at = PENDING + ROUND * j;
@@ -133,7 +133,7 @@ fn is_pending(r: &[u64], j: usize, cells: usize) -> bool
 
 // Whether the first n pending rounds are so.
 pub fn are_pending(r: &[u64], n: usize, cells: usize) -> bool
-    requires { ⌜ (length (now r) ≡ RECORD) × (n ≤ 8) × (cells ≤ 64) ⌝ }
+    requires { ⌜ (length (now r) ≡ RECORD) × (n ≤ QUEUE) × (cells ≤ MOST·CELLS) ⌝ }
     ensures { λ b. ⌜ Decides b ((j : ℕ) → j < n → GoodPending cells (now (r .entry)) j) ⌝ }
 {
     let mut j = 0;
@@ -148,7 +148,7 @@ pub fn are_pending(r: &[u64], n: usize, cells: usize) -> bool
 
 // Whether the j-th waiting round is numbered as its place among the last pending ones, and its changes are valid.
 fn is_waiting(r: &[u64], j: usize, cells: usize) -> bool
-    requires { ⌜ (length (now r) ≡ RECORD) × (cells ≤ 64) × (getD (now r) PENDING·LENGTH 0 ≤ 8) × (getD (now r) WAITING·LENGTH 0 ≤ getD (now r) PENDING·LENGTH 0) × (j < getD (now r) WAITING·LENGTH 0) ⌝ }
+    requires { ⌜ (length (now r) ≡ RECORD) × (cells ≤ MOST·CELLS) × (getD (now r) PENDING·LENGTH 0 ≤ QUEUE) × (getD (now r) WAITING·LENGTH 0 ≤ getD (now r) PENDING·LENGTH 0) × (j < getD (now r) WAITING·LENGTH 0) ⌝ }
     ensures { λ b. ⌜ Decides b (GoodWaiting cells (now (r .entry)) j) ⌝ }
 {
     let at = WAITING + ROUND * j;
@@ -161,7 +161,7 @@ fn is_waiting(r: &[u64], j: usize, cells: usize) -> bool
 
 // Whether every waiting round is so.
 pub fn are_waiting(r: &[u64], n: usize, cells: usize) -> bool
-    requires { ⌜ (length (now r) ≡ RECORD) × (cells ≤ 64) × (getD (now r) PENDING·LENGTH 0 ≤ 8) × (getD (now r) WAITING·LENGTH 0 ≤ getD (now r) PENDING·LENGTH 0) × (n ≤ getD (now r) WAITING·LENGTH 0) ⌝ }
+    requires { ⌜ (length (now r) ≡ RECORD) × (cells ≤ MOST·CELLS) × (getD (now r) PENDING·LENGTH 0 ≤ QUEUE) × (getD (now r) WAITING·LENGTH 0 ≤ getD (now r) PENDING·LENGTH 0) × (n ≤ getD (now r) WAITING·LENGTH 0) ⌝ }
     ensures { λ b. ⌜ Decides b ((j : ℕ) → j < n → GoodWaiting cells (now (r .entry)) j) ⌝ }
 {
     let mut j = 0;

@@ -14,6 +14,7 @@ use words::layout::LAST;
 use words::layout::LIVE;
 use words::layout::MOST_PUSHES;
 use words::layout::PENDING_LENGTH;
+use words::layout::QUEUE;
 use words::layout::REQUEST;
 use words::layout::STALE;
 use words::layout::TAKEN;
@@ -48,13 +49,13 @@ pub fn are_lengths(r: &[u64]) -> bool
     requires { ⌜ length (now r) ≡ RECORD ⌝ }
     ensures { λ b. ⌜ Decides b (Lengths (now (r .entry))) ⌝ }
 {
-    if r[PENDING_LENGTH] > 8 {
+    if r[PENDING_LENGTH] > QUEUE as u64 {
         return false;
     }
     if r[WAITING_LENGTH] > r[PENDING_LENGTH] {
         return false;
     }
-    r[ITEMS_LENGTH] <= 8
+    r[ITEMS_LENGTH] <= QUEUE as u64
 }
 
 // Whether what waits has its channel.

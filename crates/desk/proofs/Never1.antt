@@ -11,7 +11,7 @@ use Rattle.cells.specs.Stored.{updateFinite}
 use Rattle.cells.specs.declared.Cell.{Cell}
 use Rattle.protocol.specs.declared.Refusal.{Refusal}
 use Rattle.protocol.specs.declared.Refusal.the-variants.{NoCell, NotFinite, NoItem, BufferShort}
-use Rattle.protocol.specs.Machine.{choose, isOff, isEstablished, isHeld, Table, Device, Item, Local, Step, fine, tell, unless, unlessRefused, view, joined, take·first, full, taken·up, settle, step, at, update·at, block·at, read·at, confirmed·at, push·at, send·at, ask·at, drop·at, receive·at, pull·at, accept·at, serverdrop·at}
+use Rattle.protocol.specs.Machine.{choose, isOff, isEstablished, isHeld, Table, Device, Item, Local, Step, fine, tell, unless, unlessRefused, view, joined, take·first, full, settle, step, at, update·at, block·at, read·at, confirmed·at, push·at, send·at, ask·at, drop·at, receive·at, pull·at, accept·at, accept·with, serverdrop·at}
 use Rattle.protocol.specs.Machine as machine
 use Rattle.protocol.specs.Refusals.{numberOf}
 use Rattle.sheet.specs.Changes.{CellUpdate, idleBelow, refusesUpdate}
@@ -128,8 +128,8 @@ module _ (x : Device sheet) where
   pull-plain d = of-fine
 
   accept-plain : (s : ℕ → Cell) (ns : ℕ → ℕ) → Plain (accept·at sheet s ns x)
-  unfolding accept·at
-  accept-plain s ns = unless-plain (not (x .link .request)) (refusal (λ q. omega arith)) (unless-plain (taken·up sheet x) (refusal (λ q. omega arith)) of-fine)
+  unfolding accept·at accept·with
+  accept-plain s ns = unless-plain (not (x .link .request)) (refusal (λ q. omega arith)) (unless-plain (isHeld (x .link .connection)) (refusal (λ q. omega arith)) of-fine)
 
   serverdrop-plain : Plain (serverdrop·at sheet x)
   unfolding serverdrop·at

@@ -16,8 +16,10 @@ use Rattle.cells.specs.declared.Cell.the-variants.{Blank, Count, Measure}
 use Rattle.protocol.specs.declared.Refusal.the-variants.{NoImage}
 use Rattle.protocol.specs.Machine.{Start, Table, fresh}
 use Rattle.sheet.specs.Sheet.{sheet, started}
+use Rattle.sheet.specs.Answer.{meaning}
 use Rattle.sheet.specs.declared.Answer.{Answer}
 use Rattle.sheet.specs.declared.Answer.the-variants.{Done}
+use Rattle.sheet.proofs.OneAnswer.{done-refused}
 use Rattle.words.proofs.Places.{lt-or-ge}
 use Rattle.record.specs.Reading.{queue}
 use Rattle.table.specs.Table.{reading}
@@ -30,7 +32,6 @@ use Rattle.image.proofs.Opens.{queue-is}
 use Rattle.image.proofs.Theorems.{opening-answers}
 use Rattle.desk.specs.Calls.{Call, Called, Begun, at-start, at-opening, anew, start, update, block, read, confirmed, push, send, ask, give·up, receive, pull, accept, serverdrop, batch, crash, cut, write·image, open·image}
 use Rattle.desk.specs.Demand3.{Always·begins}
-use Rattle.desk.proofs.Reaches.{done-refused}
 
 -- What is not false holds, where it can be told.
 abbrev Told : Type 0 → Type 0
@@ -75,7 +76,7 @@ module _ (bytes xs ys : List ℕ) (O : Opened bytes xs Done ys) where
   Image = (cells : List Cell) × (numbers : List ℕ) × Allowed cells numbers × (bytes ≡ imageOf cells numbers)
 
   not-none : (Image → ⊥) → ⊥
-  not-none k = done-refused Done NoImage refl (O .no-image (λ cells numbers ok e. k (cells, numbers, ok, e)) .number)
+  not-none k = done-refused (meaning Done) NoImage refl (O .no-image (λ cells numbers ok e. k (cells, numbers, ok, e)) .number)
 
   -- the cells and numbers that the words then say are the image's
   abbrev cells : List Cell

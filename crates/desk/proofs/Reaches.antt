@@ -8,14 +8,13 @@ use lib.ListN.{length}
 use Rattle.cbor.proofs.Codes.{all-at}
 use Rattle.cells.specs.declared.Cell.{Cell}
 use Rattle.protocol.specs.Fits.{Fits, Sizes}
-use Rattle.protocol.specs.Machine.{Start, Step, Table, step, run, fresh, refused}
-use Rattle.protocol.specs.declared.Refusal.{Refusal}
+use Rattle.protocol.specs.Machine.{Start, Step, Table, step, run, fresh}
 use Rattle.protocol.specs.History.{Every, tableAfter}
 use Rattle.sheet.specs.Sheet.{sheet}
 use Rattle.sheet.specs.Answer.{meaning}
 use Rattle.sheet.specs.declared.Answer.{Answer}
 use Rattle.sheet.specs.declared.Answer.the-variants.{Done}
-use Rattle.sheet.proofs.OneAnswer.{meaning-one}
+use Rattle.sheet.proofs.OneAnswer.{meaning-one, done-refused}
 use Rattle.sheet.proofs.Theorem.{reached-fits}
 use Rattle.words.proofs.Places.{lt-or-ge}
 use Rattle.table.specs.Promise.{Stepped, Started}
@@ -43,9 +42,6 @@ is-table {b} k {steps} A = record { valid = A .valid; fits = subst (Fits sheet) 
 pub run-append : (ss more : List (Step sheet)) (t : Table sheet) → run sheet (ss ++ more) t ≡ run sheet more (run sheet ss t)
 run-append [] more t = refl
 run-append (s ∷ ss) more t = run-append ss more (step sheet s t .table)
-
-pub done-refused : (a : Answer) (r : Refusal) → a ≡ Done → meaning a ≡ refused r → ⊥
-done-refused a r p q = let w = ap meaning p in let z : _≡_ {A = ℕ} 0 1 = cc in omega arith
 
 -- A start or an opening that is refused leaves the words.
 pub start-stays : (devices cells : ℕ) (xs ys : List ℕ) (a : Answer) → Started devices cells xs a ys → (a ≡ Done → ⊥) → ys ≡ xs
@@ -117,8 +113,8 @@ sizes-hold devices cells n =
 -- Words just started or just opened are at the beginning of a run.
 pub begun-at : (b : Start sheet) (xs : List ℕ) → Begun b xs → Allowed·start b × At b [] xs
 begun-at b xs (at-start devices cells ws ys S) =
-    let z = sizes-hold devices cells (λ n. done-refused Done _ refl (S .outside n .number)) in
-    let B = ⊎-elim (λ l. absurd (done-refused Done _ refl (S .short z l .number))) (λ g. S .begun z g .1) (lt-or-ge (length ws) (need devices)) in
+    let z = sizes-hold devices cells (λ n. done-refused (meaning Done) _ refl (S .outside n .number)) in
+    let B = ⊎-elim (λ l. absurd (done-refused (meaning Done) _ refl (S .short z l .number))) (λ g. S .begun z g .1) (lt-or-ge (length ws) (need devices)) in
     (record { sizes = z; numbers = λ d h. omega arith }, record { says = B .says; valid = B .valid })
 begun-at b xs (at-opening cells numbers ws ys ok O) =
     let g = opening-answers (imageOf cells numbers) ws ys Done O .open-done cells numbers ok refl .0 refl in

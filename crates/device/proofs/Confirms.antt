@@ -6,7 +6,7 @@ use Prim.Native.Nat.{ℕ, zero, suc, _+_, _*_, _≤_, _<_}
 use native.Mathlib.Omega.{arith}
 use lib.Dec.{eqb}
 use lib.ListN.{getD}
-use borrow.Author.Tests.{lt-ltb, eq-eqb, ne-eqb}
+use borrow.Author.Tests.{eq-eqb, ne-eqb}
 use Rattle.cells.specs.declared.Change.{Change}
 use Rattle.cells.specs.declared.Change.the-variants.{Nothing}
 use Rattle.protocol.specs.Machine.{choose, tell, says·yes, says·no, confirmed·at}
@@ -15,10 +15,11 @@ use Rattle.sheet.specs.Laws.{idle-at}
 use Rattle.sheet.specs.Sheet.{sheet}
 use Rattle.sheet.specs.declared.Answer.the-variants.{Yes, No}
 use Rattle.words.specs.Layout.{CHANGE, ROUND, COVERED, PENDING·LENGTH, TRANSACTION, PENDING}
-use Rattle.words.specs.Place.{changeAt, Decides}
+use Rattle.words.specs.Place.{changeAt, changePlace, Decides}
 use Rattle.words.proofs.Tests.{true-false}
-use Rattle.record.specs.Reading.{placesAt, changesAt, roundAt, deviceOf}
+use Rattle.record.specs.Reading.{changesAt, roundAt, deviceOf}
 use Rattle.record.proofs.Queues.{queue-length}
+use Rattle.record.proofs.Same.{place-in}
 use Rattle.record.specs.Did.{Tells}
 
 -- A joined change that holds no update is nothing at every cell, and the other way round.
@@ -32,10 +33,6 @@ nothing-is (Change.Set v) e = true-false (sym e)
 nothing-is (Change.Add n) e = true-false (sym e)
 
 module _ (devices cells : ℕ) (xs : List ℕ) where
-  changes-at : (c : ℕ) → c < cells → changesAt cells xs TRANSACTION c ≡ changeAt xs (TRANSACTION + CHANGE * c)
-  unfolding placesAt
-  changes-at c l = rw (lt-ltb c cells l) refl
-
   answer-is : (a b i : Bool) → eqb (getD xs PENDING·LENGTH 0) 0 ≡ a → eqb (getD xs COVERED 0) 0 ≡ b → idleBelow cells (changesAt cells xs TRANSACTION) ≡ i → confirmed·at sheet cells (deviceOf devices cells xs) ≡ tell (choose (a && b && i) says·yes says·no)
   unfolding confirmed·at deviceOf
   answer-is a b i p q r = (λ k. tell (choose (eqb (queue-length (getD xs PENDING·LENGTH 0) (λ j. roundAt cells xs (PENDING + ROUND * j)) k) 0 && q k && r k) says·yes says·no)) ∙ ap (λ (t : Bool). tell (choose (t && b && i) says·yes says·no)) p
@@ -56,11 +53,11 @@ module _ (devices cells : ℕ) (xs : List ℕ) where
 
     module _ (q : getD xs COVERED 0 ≤ 0) (r : Bool) (D : Decides r ((k : ℕ) → k < cells → changeAt xs (TRANSACTION + CHANGE * k) ≡ Nothing)) where
       pub all-confirmed : r ≡ true → Tells devices cells (confirmed·at sheet cells) xs Yes
-      all-confirmed e = answer-is true true true (none _ p) (none _ q) (idle-is cells _ (λ c l. changes-at c l ∙ D .sure e c l))
+      all-confirmed e = answer-is true true true (none _ p) (none _ q) (idle-is cells _ (λ c l. place-in changePlace Nothing cells xs TRANSACTION c l ∙ D .sure e c l))
 
       pub some-open : r ≡ false → Tells devices cells (confirmed·at sheet cells) xs No
       some-open e = answer-is true true false (none _ p) (none _ q) (go (idleBelow cells (changesAt cells xs TRANSACTION)) refl)
         where
           go : (t : Bool) → idleBelow cells (changesAt cells xs TRANSACTION) ≡ t → t ≡ false
           go false f = refl
-          go true f = absurd (D .never e (λ k l. sym (changes-at k l) ∙ nothing-is _ (idle-at cells (changesAt cells xs TRANSACTION) f k l)))
+          go true f = absurd (D .never e (λ k l. sym (place-in changePlace Nothing cells xs TRANSACTION k l) ∙ nothing-is _ (idle-at cells (changesAt cells xs TRANSACTION) f k l)))

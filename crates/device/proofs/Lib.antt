@@ -9,4 +9,3 @@ pub mod Pulls
 pub mod Receives
 pub mod Prefixes
 pub mod Segments
-pub mod Questions

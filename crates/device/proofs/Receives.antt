@@ -18,10 +18,11 @@ use Rattle.record.proofs.Queues.{queue-first}
 use Rattle.record.specs.Did.{Did}
 use Rattle.queues.specs.Items.{itemsOf, itemsBehind, HasItems}
 use Rattle.queues.specs.Parts.{roundEntry, itemEntry, EntryBeside, QueueIs, Requeued}
-use Rattle.queues.proofs.Entries.{round-local, item-local, in-item-same, queue-kept, requeued-outside}
+use Rattle.queues.proofs.Entries.{round-local, item-local, queue-kept, requeued-outside}
 use Rattle.queues.proofs.Items.{is-filled}
 use Rattle.queues.proofs.Parts.{Parts, WordsAre, ReceivedIs, did-parts, past-singles, last-stays, covered-stays, words-kept, known-stays, transaction-stays, buffered-stays, received-kept, pending-stays, items-stay}
 use Rattle.record.proofs.Steps.{told}
+use Rattle.record.proofs.Same.{in-item-same}
 
 -- A queue by its first entry.
 first-of : {A : Type 0} (n : ℕ) (f : ℕ → A) → 0 < n → queue n f ≡ f 0 ∷ drop 1 (queue n f)

@@ -23,7 +23,7 @@ use Rattle.record.proofs.Meanings.{is-not-established}
 use Rattle.record.proofs.Queues.{queue-length}
 use Rattle.record.specs.Did.{Did}
 use Rattle.queues.specs.Parts.{roundEntry, PlacesAre, QueueIs, Requeued}
-use Rattle.queues.specs.Rounds.{added, Addable}
+use Rattle.queues.specs.Rounds.{withRound, Addable}
 use Rattle.queues.proofs.Entries.{round-local, queue-kept, requeued-outside}
 use Rattle.queues.proofs.Parts.{Parts, did-parts, past-singles, places-put, places-kept, last-stays, words-stay, known-stays, transaction-stays, buffered-stays, received-stays, waiting-stays, items-stay}
 use Rattle.record.proofs.Steps.{told}
@@ -64,7 +64,7 @@ module _ (devices cells : ℕ) (xs : List ℕ) (R : IsRecord devices cells xs) w
     }
 
     -- y1 has the round in pending
-    module _ (y1 : List ℕ) (len1 : length y1 ≡ RECORD) (Q1 : Requeued (roundEntry cells) xs y1 PENDING·LENGTH PENDING (added cells xs PENDING·LENGTH PENDING)) where
+    module _ (y1 : List ℕ) (len1 : length y1 ≡ RECORD) (Q1 : Requeued (roundEntry cells) xs y1 PENDING·LENGTH PENDING (withRound cells xs PENDING·LENGTH PENDING)) where
       outside1 : (i : ℕ) → (i ≡ PENDING·LENGTH → ⊥) → Out PENDING (ROUND * QUEUE) i → getD y1 i 0 ≡ getD xs i 0
       outside1 = requeued-outside (roundEntry cells) (round-local cells (R .few-cells)) xs y1 PENDING·LENGTH PENDING _ Q1
 
@@ -88,7 +88,7 @@ module _ (devices cells : ℕ) (xs : List ℕ) (R : IsRecord devices cells xs) w
       }
 
       -- y2 has it in waiting too, y3 the push buffer cleared
-      module _ (y2 y3 : List ℕ) (Q2 : Requeued (roundEntry cells) y1 y2 WAITING·LENGTH WAITING (added cells y1 WAITING·LENGTH WAITING)) (C : Filled changePlace y2 y3 BUFFERED cells (λ k. Nothing)) (len : length y3 ≡ RECORD) where
+      module _ (y2 y3 : List ℕ) (Q2 : Requeued (roundEntry cells) y1 y2 WAITING·LENGTH WAITING (withRound cells y1 WAITING·LENGTH WAITING)) (C : Filled changePlace y2 y3 BUFFERED cells (λ k. Nothing)) (len : length y3 ≡ RECORD) where
         end : List ℕ
         end = set y3 COVERED 0
 
@@ -116,7 +116,7 @@ module _ (devices cells : ℕ) (xs : List ℕ) (R : IsRecord devices cells xs) w
         unfolding end
         covered-is = set-new y3 COVERED 0 (omega (arith, len))
 
-        pending-is : QueueIs (roundEntry cells) end PENDING·LENGTH PENDING (added cells xs PENDING·LENGTH PENDING)
+        pending-is : QueueIs (roundEntry cells) end PENDING·LENGTH PENDING (withRound cells xs PENDING·LENGTH PENDING)
         pending-is =
             queue-kept (roundEntry cells) (round-local cells (R .few-cells)) y1 end PENDING·LENGTH PENDING _ (from-y1 PENDING·LENGTH (λ e. omega arith) (λ p q. omega arith) (λ e. omega arith) (λ p q. omega arith))
             (λ i p q. from-y1 i (λ e. omega arith) (λ u v. omega (arith, R .few-cells)) (λ e. omega arith) (λ u v. omega arith)) (Q1 .now·is)
@@ -124,7 +124,7 @@ module _ (devices cells : ℕ) (xs : List ℕ) (R : IsRecord devices cells xs) w
         waiting-is : QueueIs (roundEntry cells) end WAITING·LENGTH WAITING (deviceOf devices cells xs .link .waiting ++ (roundOf sheet (deviceOf devices cells xs) ∷ []))
         unfolding deviceOf
         waiting-is =
-            let e : added cells y1 WAITING·LENGTH WAITING ≡ deviceOf devices cells xs .link .waiting ++ (roundOf sheet (deviceOf devices cells xs) ∷ []) =
+            let e : withRound cells y1 WAITING·LENGTH WAITING ≡ deviceOf devices cells xs .link .waiting ++ (roundOf sheet (deviceOf devices cells xs) ∷ []) =
             (λ i. waiting1 .is i ++ (record { number = outside1 LAST (λ e. omega arith) (λ p q. omega arith) i; delta = buffered1 .is i } ∷ [])) in
             rw e at
             (queue-kept (roundEntry cells) (round-local cells (R .few-cells)) y2 end WAITING·LENGTH WAITING _ (from-y2 WAITING·LENGTH (λ e. omega arith) (λ p q. omega arith))

@@ -1,4 +1,4 @@
--- The questions to a device. Assumes nothing.
+-- Document 01's read and confirmed, the two steps of a device that only look. Assumes nothing.
 use Prim.Native.Nat.{ℕ}
 use Rattle.protocol.specs.Machine.{Device, Local, Step, read·at, confirmed·at}
 use Rattle.protocol.specs.Machine as machine
@@ -12,6 +12,6 @@ questionOf cells (Read c) = read·at sheet cells c
 questionOf cells Confirmed = confirmed·at sheet cells
 
 -- The machine's step of the table that it is.
-abbrev pub asked : (d : ℕ) → Question → Step sheet
-asked d (Read c) = machine.read d c
-asked d Confirmed = machine.confirmed d
+abbrev pub questionStep : (d : ℕ) → Question → Step sheet
+questionStep d (Read c) = machine.read d c
+questionStep d Confirmed = machine.confirmed d

@@ -1,4 +1,5 @@
-// The steps of a device on its record, and one dispatcher for them. Two of them, confirmed and read, only look.
+// The steps of a device on its record, behind two dispatchers, so that a table lends a record in two places only: step for those that may change
+// it, look for read and confirmed.
 mod ask;
 mod confirmed;
 mod give_up;

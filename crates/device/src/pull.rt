@@ -5,7 +5,7 @@ ghost use Prim.Native.Nat.{_*_, _<_, _≤_};
 ghost use lib.ListN.{length};
 ghost use Rattle.cells.specs.declared.Cell.the-variants.{Blank};
 ghost use Rattle.protocol.specs.Machine.{pull·at, sheetAfter};
-ghost use Rattle.words.specs.Layout.{CELL, KNOWN, RECEIVED, RECORD};
+ghost use Rattle.words.specs.Layout.{CELL, KNOWN, MOST·CELLS, RECEIVED, RECORD};
 ghost use Rattle.words.specs.Place.{cellPlace, Kept, Valid};
 ghost use Rattle.record.specs.Reading.{itemAt, sheetAt};
 ghost use Rattle.record.specs.Valid.{IsRecord, ValidItem};
@@ -24,7 +24,7 @@ use words::run::copy_cells;
 
 // Applies the buffered item to the known sheet: a prefix replaces it.
 fn take_in(r: &mut [u64], devices: usize, cells: usize)
-    requires { ⌜ (length (now r) ≡ RECORD) × (cells ≤ 64) × Valid cellPlace (now r) KNOWN cells × ValidItem devices cells (now r) RECEIVED ⌝ }
+    requires { ⌜ (length (now r) ≡ RECORD) × (cells ≤ MOST·CELLS) × Valid cellPlace (now r) KNOWN cells × ValidItem devices cells (now r) RECEIVED ⌝ }
     ensures { λ _. ⌜ PlacesAre cellPlace Blank cells (now (r .exit)) KNOWN (sheetAfter sheet (some (itemAt devices cells (now (r .entry)) RECEIVED)) (sheetAt cells (now (r .entry)) KNOWN)) × Kept (now (r .entry)) (now (r .exit)) KNOWN (CELL * cells) ⌝ }
 {
     if r[RECEIVED] == PREFIX {

@@ -49,6 +49,7 @@ fn buffer_first(r: &mut [u64], devices: usize, cells: usize)
     join_item(r, RECEIVED, ITEMS, devices, cells);
 }
 
+// The first item is a segment: it is joined to the receive buffer.
 fn receive_segment(r: &mut [u64], devices: usize, cells: usize, d: usize) -> Answer
     requires { ⌜ Receivable devices cells (now r) d × (getD (now r) ITEMS 0 ≡ SEGMENT) ⌝ }
     ensures { λ a. ⌜ Did devices cells (receive·at sheet d) (now (r .entry)) a (now (r .exit)) ⌝ }

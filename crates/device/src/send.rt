@@ -1,4 +1,4 @@
-// send: one round of the push buffer, added to pending and to the channel.
+// send: one round of the push buffer, added to pending and to the channel, and the buffer emptied.
 ghost use Rattle.protocol.specs.Machine.{send·at};
 ghost use Rattle.record.specs.Valid.{IsRecord};
 ghost use Rattle.sheet.specs.Sheet.{sheet};

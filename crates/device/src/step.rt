@@ -1,4 +1,4 @@
-// One dispatcher for every step of a device.
+// One dispatcher for the steps of a device that may change its record.
 ghost use Prim.Native.Nat.{_<_};
 ghost use Rattle.record.specs.Valid.{IsRecord};
 ghost use Rattle.record.specs.Did.{Did};
@@ -14,7 +14,7 @@ use cells::Update;
 use sheet::Answer;
 
 // A step of one device; an update names its cell.
-pub enum Op {
+pub enum Operation {
     Update(u64, Update),
     Push,
     Send,
@@ -24,17 +24,23 @@ pub enum Op {
     Pull,
 }
 
-pub fn on_record(r: &mut [u64], devices: usize, cells: usize, d: usize, op: Op) -> Answer
+pub fn on_record(
+    r: &mut [u64],
+    devices: usize,
+    cells: usize,
+    d: usize,
+    operation: Operation,
+) -> Answer
     requires { ⌜ IsRecord devices cells (now r) × (d < devices) ⌝ }
-    ensures { λ a. ⌜ Did devices cells (stepOf cells d op) (now (r .entry)) a (now (r .exit)) ⌝ }
+    ensures { λ a. ⌜ Did devices cells (stepOf cells d operation) (now (r .entry)) a (now (r .exit)) ⌝ }
 {
-    match op {
-        Op::Update(cell, u) => update(r, devices, cells, cell, u),
-        Op::Push => push(r, devices, cells),
-        Op::Send => send(r, devices, cells),
-        Op::Ask => ask(r, devices, cells),
-        Op::Drop => give_up(r, devices, cells),
-        Op::Receive => receive(r, devices, cells, d),
-        Op::Pull => pull(r, devices, cells, d),
+    match operation {
+        Operation::Update(cell, u) => update(r, devices, cells, cell, u),
+        Operation::Push => push(r, devices, cells),
+        Operation::Send => send(r, devices, cells),
+        Operation::Ask => ask(r, devices, cells),
+        Operation::Drop => give_up(r, devices, cells),
+        Operation::Receive => receive(r, devices, cells, d),
+        Operation::Pull => pull(r, devices, cells, d),
     }
 }

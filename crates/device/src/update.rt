@@ -17,6 +17,7 @@ use words::place::put_change;
 
 pub fn update(r: &mut [u64], devices: usize, cells: usize, cell: u64, u: Update) -> Answer
     requires { ⌜ IsRecord devices cells (now r) ⌝ }
+    // for every d: whether a cell update is refused does not depend on the device
     ensures { λ a. ⌜ ((d : ℕ) → Did devices cells (update·at sheet cells d (updateOf cell u)) (now (r .entry)) a (now (r .exit))) ⌝ }
 {
     if cell >= cells as u64 {

@@ -12,14 +12,14 @@ use Rattle.cbor.proofs.Codes.{all-at}
 use Rattle.cells.specs.declared.Cell.{Cell}
 use Rattle.cells.specs.declared.Cell.the-variants.{Blank}
 use Rattle.protocol.specs.Fits.{Fits, Sizes}
-use Rattle.protocol.specs.Machine.{Start, Table, choose, done, fresh, freshDevice, length·is, refused}
+use Rattle.protocol.specs.Machine.{Start, Table, choose, fresh, freshDevice, length·is, refused}
 use Rattle.protocol.specs.Machine as machine
 use Rattle.protocol.specs.declared.Refusal.{Refusal}
 use Rattle.protocol.specs.declared.Refusal.the-variants.{BufferShort, NoImage, NoTable}
 use Rattle.sheet.specs.Sheet.{sheet}
 use Rattle.sheet.specs.declared.Answer.{Answer}
 use Rattle.sheet.specs.declared.Answer.the-variants.{Length}
-use Rattle.sheet.proofs.OneAnswer.{meaning-one}
+use Rattle.sheet.proofs.OneAnswer.{meaning-one, done-refused}
 use Rattle.sheet.proofs.Theorem.{reached-fits}
 use Rattle.words.specs.Layout.{CELLS, DEVICES, SHEET, TAKEN}
 use Rattle.words.proofs.Places.{lt-or-ge}
@@ -49,9 +49,6 @@ longest-reached = Longest.longest-reached
 
 -- Answers that are never the same, and lengths that are.
 module _ (m : machine.Answer sheet) where
-  done-refused : (r : Refusal) → m ≡ done → m ≡ refused r → ⊥
-  done-refused r p q = let z : _≡_ {A = ℕ} 0 1 = cc in omega arith
-
   pub length-refused : (n : ℕ) (r : Refusal) → m ≡ length·is n → m ≡ refused r → ⊥
   length-refused n r p q = let z : _≡_ {A = ℕ} 0 1 = cc in omega arith
 

@@ -8,7 +8,7 @@ use native.Mathlib.Omega.{arith}
 use lib.ListN.{length, getD}
 use Rattle.cells.specs.declared.Cell.the-variants.{Blank}
 use Rattle.cells.specs.declared.Change.the-variants.{Nothing}
-use Rattle.protocol.specs.Machine.{Channel, Connection, Device, Item, Link, Local, Round, fine, withLink}
+use Rattle.protocol.specs.Machine.{deviceAfter, Channel, Connection, Device, Item, Link, Local, Round, fine, withLink}
 use Rattle.sheet.specs.Sheet.{sheet}
 use Rattle.sheet.specs.declared.Answer.{Answer}
 use Rattle.words.specs.Layout.{QUEUE, ROUND, ITEM, LAST, TAKEN, CHANNEL, REQUEST, CONNECTION, COVERED, PENDING·LENGTH, WAITING·LENGTH, ITEMS·LENGTH, KNOWN, TRANSACTION, BUFFERED, PENDING, WAITING, ITEMS, RECORD}
@@ -16,7 +16,7 @@ use Rattle.words.specs.Place.{cellPlace, changePlace, Out}
 use Rattle.words.proofs.Places.{lt-or-ge, cell-local, change-local}
 use Rattle.record.specs.Reading.{deviceOf}
 use Rattle.record.specs.Valid.{InUse}
-use Rattle.record.specs.Did.{Did, deviceAfter}
+use Rattle.record.specs.Did.{Did}
 use Rattle.queues.specs.Parts.{Entry, QueueIs, Requeued, roundEntry, itemEntry}
 use Rattle.queues.proofs.Entries.{LocalEntry, round-local, item-local, queue-kept, requeued-outside}
 use Rattle.queues.proofs.Parts.{WordsAre, Parts, parts-of, parts-say, parts-valid, past-singles, places-kept, received-kept}
@@ -111,4 +111,4 @@ module _ (devices cells : ℕ) (xs y1 y2 y3 end : List ℕ) (waiting : List (Rou
 
 -- A step that is done turns its record.
 pub did-turned : (devices cells : ℕ) (f : Device sheet → Local sheet) (xs ys : List ℕ) (a : Answer) (y : Device sheet) → f (deviceOf devices cells xs) ≡ fine y → Did devices cells f xs a ys → Turned devices cells y (getD xs TAKEN 0) xs ys
-did-turned devices cells f xs ys a y e D = record { says = D .after ∙ ap (deviceAfter (deviceOf devices cells xs)) e; taken = D .taken; valid = D .valid; kept = D .kept }
+did-turned devices cells f xs ys a y e D = record { says = D .after ∙ ap (deviceAfter sheet (deviceOf devices cells xs)) e; taken = D .taken; valid = D .valid; kept = D .kept }

@@ -6,7 +6,7 @@ use Prim.Native.Nat.{ℕ, zero, suc}
 use native.Mathlib.Omega.{arith}
 use lib.ListN.{length, getD, set, length-set}
 use Rattle.protocol.specs.declared.Refusal.the-variants.{NoRequest, Held}
-use Rattle.protocol.specs.Machine.{Item, live, fine, tell, refused, accept, withLink}
+use Rattle.protocol.specs.Machine.{Item, live, fine, tell, answerOf, deviceAfter, refused, takenUp, accept·with, withLink}
 use Rattle.sheet.specs.Sheet.{sheet}
 use Rattle.sheet.specs.declared.Answer.the-variants.{Done, Refused}
 use Rattle.words.specs.Layout.{ITEM·KIND, LIVE, TAKEN, REQUEST, CONNECTION, WAITING·LENGTH, WAITING, ITEMS·LENGTH, ITEMS, RECORD}
@@ -14,13 +14,12 @@ use Rattle.words.proofs.Places.{set-kept, set-new}
 use Rattle.record.specs.Reading.{channelOf, connectionOf, requestOf, itemAt, linkOf, deviceOf}
 use Rattle.record.specs.Valid.{IsRecord}
 use Rattle.record.proofs.Queues.{queue-length}
-use Rattle.record.specs.Did.{Did, answerOf, deviceAfter}
+use Rattle.record.specs.Did.{Did}
 use Rattle.queues.specs.Items.{itemsOf}
 use Rattle.queues.specs.Parts.{Requeued, roundEntry, itemEntry}
 use Rattle.queues.proofs.Entries.{item-local, requeued-outside}
 use Rattle.queues.proofs.Parts.{WordsAre, parts-of}
 use Rattle.record.proofs.Steps.{told}
-use Rattle.link.specs.Accept.{takenUp, accept·with}
 use Rattle.link.specs.Deliver.{ItemReady, Stackable}
 use Rattle.link.specs.Turn.{Turned}
 use Rattle.link.proofs.Links.{Chain, requeued-same, channel-kept, link-turned}
@@ -29,16 +28,16 @@ module _ (devices cells : ℕ) (xs ss : List ℕ) (R : IsRecord devices cells xs
   item : Item sheet
   item = itemAt devices cells ss ITEM·KIND
 
-  pub no-request : getD xs REQUEST 0 ≡ 0 → Did devices cells (accept·with (itemAt devices cells ss ITEM·KIND)) xs (Refused NoRequest) xs
+  pub no-request : getD xs REQUEST 0 ≡ 0 → Did devices cells (accept·with sheet (itemAt devices cells ss ITEM·KIND)) xs (Refused NoRequest) xs
   unfolding accept·with deviceOf linkOf
-  no-request e = told devices cells (accept·with (itemAt devices cells ss ITEM·KIND)) xs (Refused NoRequest) R (rw e refl)
+  no-request e = told devices cells (accept·with sheet (itemAt devices cells ss ITEM·KIND)) xs (Refused NoRequest) R (rw e refl)
 
   module _ (asks : getD xs REQUEST 0 ≡ 0 → ⊥) where
-    pub request-held : (getD xs CONNECTION 0 ≡ 0 → ⊥) → Did devices cells (accept·with (itemAt devices cells ss ITEM·KIND)) xs (Refused Held) xs
+    pub request-held : (getD xs CONNECTION 0 ≡ 0 → ⊥) → Did devices cells (accept·with sheet (itemAt devices cells ss ITEM·KIND)) xs (Refused Held) xs
     unfolding accept·with deviceOf linkOf
-    request-held n = told devices cells (accept·with (itemAt devices cells ss ITEM·KIND)) xs (Refused Held) R (go (getD xs REQUEST 0) (getD xs CONNECTION 0) refl refl)
+    request-held n = told devices cells (accept·with sheet (itemAt devices cells ss ITEM·KIND)) xs (Refused Held) R (go (getD xs REQUEST 0) (getD xs CONNECTION 0) refl refl)
       where
-        go : (r k : ℕ) → getD xs REQUEST 0 ≡ r → getD xs CONNECTION 0 ≡ k → accept·with (itemAt devices cells ss ITEM·KIND) (deviceOf devices cells xs) ≡ tell (refused Held)
+        go : (r k : ℕ) → getD xs REQUEST 0 ≡ r → getD xs CONNECTION 0 ≡ k → accept·with sheet (itemAt devices cells ss ITEM·KIND) (deviceOf devices cells xs) ≡ tell (refused Held)
         go zero k e f = absurd (asks e)
         go (suc r) zero e f = absurd (n f)
         go (suc r) (suc zero) e f = rw (e, f) refl
@@ -90,7 +89,7 @@ module _ (devices cells : ℕ) (xs ss : List ℕ) (R : IsRecord devices cells xs
             connection-fits = rw k (omega arith);
           }
 
-      turned : Turned devices cells (withLink sheet (deviceOf devices cells xs) (takenUp item (deviceOf devices cells xs .link))) (getD xs TAKEN 0) xs end
+      turned : Turned devices cells (withLink sheet (deviceOf devices cells xs) (takenUp sheet item (deviceOf devices cells xs .link))) (getD xs TAKEN 0) xs end
       turned = unfold item deviceOf linkOf in (link-turned devices cells xs xs xs y end _ _ chain _ _ _ words (getD xs TAKEN 0) taken-kept)
         where
           from-y : getD end TAKEN 0 ≡ getD y TAKEN 0
@@ -99,21 +98,21 @@ module _ (devices cells : ℕ) (xs ss : List ℕ) (R : IsRecord devices cells xs
           taken-kept : getD end TAKEN 0 ≡ getD xs TAKEN 0
           taken-kept = from-y ∙ requeued-outside (itemEntry devices cells) (item-local devices cells (R .few-devices) (R .few-cells)) xs y ITEMS·LENGTH ITEMS _ Q TAKEN (λ e. omega arith) (λ p q. omega arith)
 
-      step-is : accept·with item (deviceOf devices cells xs) ≡ fine (withLink sheet (deviceOf devices cells xs) (takenUp item (deviceOf devices cells xs .link)))
+      step-is : accept·with sheet item (deviceOf devices cells xs) ≡ fine (withLink sheet (deviceOf devices cells xs) (takenUp sheet item (deviceOf devices cells xs .link)))
       unfolding accept·with deviceOf linkOf
       step-is = go (getD xs REQUEST 0) asks refl
         where
-          go : (k : ℕ) → (k ≡ 0 → ⊥) → getD xs REQUEST 0 ≡ k → accept·with item (deviceOf devices cells xs) ≡ fine (withLink sheet (deviceOf devices cells xs) (takenUp item (deviceOf devices cells xs .link)))
+          go : (k : ℕ) → (k ≡ 0 → ⊥) → getD xs REQUEST 0 ≡ k → accept·with sheet item (deviceOf devices cells xs) ≡ fine (withLink sheet (deviceOf devices cells xs) (takenUp sheet item (deviceOf devices cells xs .link)))
           go zero n e = absurd (n refl)
           go (suc k) n e = rw (e, free) refl
 
-      pub request-taken : Did devices cells (accept·with (itemAt devices cells ss ITEM·KIND)) xs Done (set (set y REQUEST 0) CONNECTION LIVE)
+      pub request-taken : Did devices cells (accept·with sheet (itemAt devices cells ss ITEM·KIND)) xs Done (set (set y REQUEST 0) CONNECTION LIVE)
       request-taken = unfold end item in did
         where
-          did : Did devices cells (accept·with item) xs Done end
+          did : Did devices cells (accept·with sheet item) xs Done end
           did = record {
-            answer = sym (ap answerOf step-is);
-            after = turned .says ∙ sym (ap (deviceAfter (deviceOf devices cells xs)) step-is);
+            answer = sym (ap (answerOf sheet) step-is);
+            after = turned .says ∙ sym (ap (deviceAfter sheet (deviceOf devices cells xs)) step-is);
             taken = turned .taken;
             valid = turned .valid;
             kept = turned .kept;

@@ -5,7 +5,7 @@ use Prim.Native.Nat.{ℕ, _+_, _*_, _≤_, _<_}
 use lib.ListN.{length, getD, take}
 use Rattle.protocol.specs.Machine.{choose, isHeld, later, Round, joinRounds, lastNumber}
 use Rattle.sheet.specs.Sheet.{sheet}
-use Rattle.words.specs.Layout.{MOST·PUSHES, CHANGE, QUEUE, ROUND, ROUND·CHANGES, ITEM, ITEM·NUMBERS, ITEM·PLACES, STALE, CONNECTION, WAITING·LENGTH, WAITING, RECORD}
+use Rattle.words.specs.Layout.{MOST·CELLS, MOST·PUSHES, CHANGE, QUEUE, ROUND, ROUND·CHANGES, ITEM, ITEM·NUMBERS, ITEM·PLACES, STALE, CONNECTION, WAITING·LENGTH, WAITING, RECORD}
 use Rattle.words.specs.Place.{changePlace, Valid, Kept}
 use Rattle.record.specs.Reading.{changesAt, queue, roundAt, givenBy, connectionOf}
 
@@ -17,7 +17,7 @@ firstWaiting cells k rs = queue k (λ j. roundAt cells rs (WAITING + ROUND * j))
 pub record RoundsReady (cells k : ℕ) (ss rs : List ℕ) : Type 0 where
   pub item : length ss ≡ ITEM
   pub size : length rs ≡ RECORD
-  pub few-cells : cells ≤ 64
+  pub few-cells : cells ≤ MOST·CELLS
   pub few : k ≤ QUEUE
   pub segment : Valid changePlace ss ITEM·PLACES cells
   pub rounds : (j : ℕ) → j < k → Valid changePlace rs (WAITING + ROUND * j + ROUND·CHANGES) cells
@@ -35,7 +35,7 @@ roundsOf cells count rs = take (choose (isHeld (connectionOf (getD rs CONNECTION
 -- A segment's words and a record of a table.
 pub record RecordReady (cells : ℕ) (ss rs : List ℕ) : Type 0 where
   pub item : length ss ≡ ITEM
-  pub few-cells : cells ≤ 64
+  pub few-cells : cells ≤ MOST·CELLS
   pub segment : Valid changePlace ss ITEM·PLACES cells
   pub size : length rs ≡ RECORD
   pub connection : getD rs CONNECTION 0 ≤ STALE

@@ -2,6 +2,5 @@ pub mod Turn
 pub mod Ends
 pub mod Gather
 pub mod Deliver
-pub mod Accept
 pub mod Waiting
 pub mod Settle

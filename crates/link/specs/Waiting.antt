@@ -5,7 +5,7 @@ use mathlib.Core.List.{List}
 use Prim.Native.Nat.{ℕ, _+_, _*_, _≤_, _<_, min}
 use lib.ListN.{length, getD}
 use Rattle.protocol.specs.Machine.{choose, isHeld, isStale}
-use Rattle.words.specs.Layout.{QUEUE, ROUND, ROUND·CHANGES, WAITING, WAITING·LENGTH, RECORD}
+use Rattle.words.specs.Layout.{MOST·CELLS, QUEUE, ROUND, ROUND·CHANGES, WAITING, WAITING·LENGTH, RECORD}
 use Rattle.words.specs.Place.{changePlace, Valid}
 use Rattle.record.specs.Reading.{connectionOf}
 
@@ -16,7 +16,7 @@ gone count connection waiting crash = choose (crash && isStale (connectionOf con
 -- A record whose first k waiting rounds can go.
 pub record HasWaiting (cells k : ℕ) (xs : List ℕ) : Type 0 where
   pub size : length xs ≡ RECORD
-  pub few-cells : cells ≤ 64
+  pub few-cells : cells ≤ MOST·CELLS
   pub few : getD xs WAITING·LENGTH 0 ≤ QUEUE
   pub some-left : k ≤ getD xs WAITING·LENGTH 0
   pub rounds : (j : ℕ) → j < getD xs WAITING·LENGTH 0 → Valid changePlace xs (WAITING + ROUND * j + ROUND·CHANGES) cells

@@ -10,6 +10,7 @@ use lib.ListN.{length, take, set, length-set}
 use Rattle.protocol.specs.declared.Refusal.the-variants.{NoStep}
 use Rattle.protocol.specs.Machine.{Table, refused}
 use Rattle.sheet.specs.Sheet.{sheet}
+use Rattle.sheet.specs.Answer.{written}
 use Rattle.sheet.specs.declared.Answer.{Answer}
 use Rattle.lines.specs.Lines.{endsLine, nextOf, endedIn, pendingAfter}
 use Rattle.lines.specs.Held.{Held, fedOf, bufferAfter}
@@ -22,7 +23,7 @@ use Rattle.lines.proofs.Feeding.{endedBy, leftBy, fed-more, fed-line, fed-long,
 use Rattle.answers.specs.Answer.{answerLine}
 use Rattle.steps.proofs.Exactly.{long-line}
 use Rattle.steps.specs.declared.parse.Step.{Step}
-use Rattle.answering.specs.Program.{Reply, asked, replyTo, devicesOf, answerTo, written, answersTo, tableAfter}
+use Rattle.answering.specs.Program.{Reply, asked, replyTo, devicesOf, answerTo, answersTo, tableAfter}
 use Rattle.stepping.specs.Bytes.{Place, nothing, Told, heldBy, ByteFed}
 use Rattle.program.specs.Claims.{Holds, Fed·as·the·machine, Feeds·as·the·machine}
 use Rattle.program.proofs.Replies.{answers-as-the-machine}

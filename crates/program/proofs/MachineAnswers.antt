@@ -10,7 +10,7 @@ use Rattle.cells.specs.Stored.{updateFinite}
 use Rattle.cells.specs.declared.Cell.{Cell}
 use Rattle.protocol.specs.declared.Refusal.{Refusal}
 use Rattle.protocol.specs.declared.Refusal.the-variants.{NoTable, OutsideAllowed, NoDevice, NoCell, NotFinite, NotEstablished, NoPush, NoChannel, NoItem, NothingToDrop, NoRequest, NoConnection, PendingFull, PushesSpent, Held, BufferShort, NoImage, NoStep}
-use Rattle.protocol.specs.Machine.{Table, Device, Local, Item, Step, Answer, fine, tell, prefix, segment, choose, done, says·yes, says·no, value, moved, length·is, refused, refusedAt, unless, unlessRefused, settle, step, update, block, read, confirmed, push, send, ask, drop·channel, receive, pull, accept, serverdrop, batch, crash, cut, update·at, block·at, read·at, confirmed·at, push·at, send·at, ask·at, drop·at, receive·at, pull·at, accept·at, serverdrop·at, take·first, view, joined, full, sentFrom, isEstablished, isOff, isHeld, taken·up}
+use Rattle.protocol.specs.Machine.{Table, Device, Local, Item, Step, Answer, fine, tell, prefix, segment, choose, done, says·yes, says·no, value, moved, length·is, refused, refusedAt, unless, unlessRefused, settle, step, update, block, read, confirmed, push, send, ask, drop·channel, receive, pull, accept, serverdrop, batch, crash, cut, update·at, block·at, read·at, confirmed·at, push·at, send·at, ask·at, drop·at, receive·at, pull·at, accept·at, accept·with, serverdrop·at, take·first, view, joined, full, sentFrom, isEstablished, isOff, isHeld}
 use Rattle.sheet.specs.Changes.{CellUpdate, idleBelow, refusesUpdate}
 use Rattle.sheet.specs.Sheet.{sheet}
 
@@ -121,10 +121,10 @@ module _ (x : Device sheet) where
   receive-comes d = unless-comes (isOff (x .link .channel)) NoChannel (take·first sheet d (x .link .items) x) refl (taken-first d (x .link .items) x)
 
   accept-comes : (s : ℕ → Cell) (ns : ℕ → ℕ) → comes (accept·at sheet s ns x) ≡ true
-  unfolding accept·at
-  accept-comes s ns = by (x .link .request) refl (taken·up sheet x) refl
+  unfolding accept·at accept·with
+  accept-comes s ns = by (x .link .request) refl (isHeld (x .link .connection)) refl
     where
-      by : (a : Bool) → x .link .request ≡ a → (b : Bool) → taken·up sheet x ≡ b → comes (accept·at sheet s ns x) ≡ true
+      by : (a : Bool) → x .link .request ≡ a → (b : Bool) → isHeld (x .link .connection) ≡ b → comes (accept·at sheet s ns x) ≡ true
       by false e b f = rw e
       by true e true f = rw (e, f)
       by true e false f = rw (e, f)

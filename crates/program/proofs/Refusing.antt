@@ -13,6 +13,7 @@ use Rattle.protocol.specs.Machine as machine
 use Rattle.protocol.specs.Fits.{Sizes}
 use Rattle.sheet.specs.Sheet.{sheet}
 use Rattle.sheet.proofs.Theorem.{refusal-changes-nothing}
+use Rattle.sheet.proofs.OneAnswer.{done-refused}
 use Rattle.steps.specs.Grammar.{LineOf}
 use Rattle.steps.specs.Parse.{parseLine}
 use Rattle.steps.specs.declared.parse.Step.{Step}
@@ -91,9 +92,6 @@ module _ (s : Option (Table sheet)) (devices cells : ℕ) where
       by false e u f = is-outside (λ z. false≢true (sym e ∙ of-sizes devices cells z)) (rw e)
 
 -- answers that are not the same
-done-not : (r : Refusal) (a : Answer sheet) → a ≡ done → a ≡ refused r → ⊥
-done-not r a e f = let z : _≡_ {A = ℕ} 0 1 = cc in omega arith
-
 1-not-2 : (a : Answer sheet) → a ≡ refused NoTable → a ≡ refused OutsideAllowed → ⊥
 1-not-2 a e f = let z : _≡_ {A = ℕ} 0 1 = cc in omega arith
 
@@ -134,7 +132,7 @@ module _ (s : Option (Table sheet)) (line : List ℕ) where
   to-13 (start d c) e q = absurd (by (ends s d c))
     where
       by : Ends s d c (startFrom s d c) → ⊥
-      by (begins z m f) = done-not NoStep (startFrom s d c .answer) f q
+      by (begins z m f) = done-refused (startFrom s d c .answer) NoStep f q
       by (is-large z m f) = 1-not-13 (startFrom s d c .answer) (ap (λ (r : Reply). r .answer) f) q
       by (is-outside z f) = 2-not-13 (startFrom s d c .answer) (ap (λ (r : Reply). r .answer) f) q
   to-13 (machine·step m) e q = absurd (step-13 s m q)
@@ -144,7 +142,7 @@ module _ (s : Option (Table sheet)) (line : List ℕ) where
   to-2 (start d c) e q = (d, c, start-line d c e, λ z. by z (ends s d c))
     where
       by : Sizes d c → Ends s d c (startFrom s d c) → ⊥
-      by z (begins y m f) = done-not OutsideAllowed (startFrom s d c .answer) f q
+      by z (begins y m f) = done-refused (startFrom s d c .answer) OutsideAllowed f q
       by z (is-large y m f) = 1-not-2 (startFrom s d c .answer) (ap (λ (r : Reply). r .answer) f) q
       by z (is-outside y f) = y z
   to-2 (machine·step m) e q = absurd (step-2 s m q)
@@ -160,7 +158,7 @@ module _ (s : Option (Table sheet)) (line : List ℕ) where
   to-1 (start d c) e q = by (ends s d c)
     where
       by : Ends s d c (startFrom s d c) → Large ⊎ Before
-      by (begins z m f) = absurd (done-not NoTable (startFrom s d c .answer) f q)
+      by (begins z m f) = absurd (done-refused (startFrom s d c .answer) NoTable f q)
       by (is-large z m f) = inl (d, c, start-line d c e, z, m)
       by (is-outside z f) = absurd (1-not-2 (startFrom s d c .answer) q (ap (λ (r : Reply). r .answer) f))
   to-1 (machine·step m) e q = inr (step-1 s m q, parseLine (devicesOf s) line, m, line-of (parseLine (devicesOf s) line) refl (λ z. not-none m (sym e ∙ z)), e)
@@ -212,7 +210,7 @@ keeps s no·step r q = refl
 keeps s (start d c) r q = by (ends s d c)
   where
     by : Ends s d c (startFrom s d c) → startFrom s d c .table ≡ s
-    by (begins z m f) = absurd (done-not r (startFrom s d c .answer) f q)
+    by (begins z m f) = absurd (done-refused (startFrom s d c .answer) r f q)
     by (is-large z m f) = ap (λ (x : Reply). x .table) f
     by (is-outside z f) = ap (λ (x : Reply). x .table) f
 keeps none (machine·step m) r q = refl

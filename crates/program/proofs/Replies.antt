@@ -8,56 +8,42 @@ use native.Mathlib.Omega.{arith}
 use borrow.Author.Tests.{leb-true, le-leb}
 use lib.Dec.{leb}
 use lib.ListN.{length, getD, replicate, length-replicate}
+use Rattle.cells.proofs.Laws.{both-true}
 use Rattle.protocol.specs.declared.Refusal.{Refusal}
 use Rattle.protocol.specs.declared.Refusal.the-variants.{NoTable}
 use Rattle.protocol.specs.Machine.{Table, Step, step, run, fresh, refused}
 use Rattle.protocol.specs.Machine as machine
 use Rattle.protocol.specs.Fits.{Sizes, Fits}
 use Rattle.sheet.specs.Sheet.{sheet, started}
-use Rattle.sheet.specs.Answer.{meaning}
+use Rattle.sheet.specs.Answer.{meaning, written}
 use Rattle.sheet.specs.declared.Answer.{Answer}
+use Rattle.sheet.proofs.OneAnswer.{written-meaning}
 use Rattle.sheet.proofs.Theorem.{reached-fits}
 use Rattle.words.specs.Layout.{DEVICES}
 use Rattle.table.specs.Table.{need, reading, IsTable}
 use Rattle.table.specs.Promise.{RefusedWith, Stepped}
 use Rattle.steps.specs.Parse.{parseLine}
-use Rattle.answering.specs.Program.{Asked, no·step, start, machine·step, asked, allowed, small, startFrom, stepFrom, replyTo, devicesOf, answerTo, written, tableAfter}
+use Rattle.answering.specs.Program.{Asked, no·step, start, machine·step, asked, allowed, small, startFrom, stepFrom, replyTo, devicesOf, answerTo, tableAfter}
 use Rattle.answering.specs.Answered.{Small, StartedSmall, Does}
 use Rattle.program.specs.Claims.{Zeros·hold·no·table, Reached, Holds, Answers·as·the·machine, Answers·every·line}
-
--- an answer is written as it is meant
-pub written-meaning : (a : Answer) → written (meaning a) ≡ a
-written-meaning Answer.Done = refl
-written-meaning (Answer.Value c) = refl
-written-meaning Answer.Yes = refl
-written-meaning Answer.No = refl
-written-meaning (Answer.Moved k) = refl
-written-meaning (Answer.Length k) = refl
-written-meaning (Answer.Refused r) = refl
-written-meaning (Answer.RefusedAt r k) = refl
 
 written-as : (a : Answer) (m : machine.Answer sheet) → meaning a ≡ m → a ≡ written m
 written-as a m e = sym (written-meaning a) ∙ ap written e
 
 -- the bounds of a start, and the tests of them
-pub both : (a b : Bool) → (a && b) ≡ true → (a ≡ true) × (b ≡ true)
-both true true e = (refl, refl)
-both true false e = absurd (false≢true e)
-both false b e = absurd (false≢true e)
-
 module _ (devices cells : ℕ) where
   pub sizes-of : allowed devices cells ≡ true → Sizes devices cells
   sizes-of e =
-      let a = both (leb 1 devices && leb devices 8 && leb 1 cells) (leb cells 64) e in
-      let b = both (leb 1 devices && leb devices 8) (leb 1 cells) (a .0) in
-      let c = both (leb 1 devices) (leb devices 8) (b .0) in
+      let a = both-true (leb 1 devices && leb devices 8 && leb 1 cells) (leb cells 64) e in
+      let b = both-true (leb 1 devices && leb devices 8) (leb 1 cells) (a .0) in
+      let c = both-true (leb 1 devices) (leb devices 8) (b .0) in
       record { devices-from-1 = leb-true 1 devices (c .0); devices-to-8 = leb-true devices 8 (c .1); cells-from-1 = leb-true 1 cells (b .1); cells-to-64 = leb-true cells 64 (a .1) }
 
   pub of-sizes : Sizes devices cells → allowed devices cells ≡ true
   of-sizes z = rw (le-leb 1 devices (z .devices-from-1), le-leb devices 8 (z .devices-to-8), le-leb 1 cells (z .cells-from-1), le-leb cells 64 (z .cells-to-64))
 
   pub small-of : small devices cells ≡ true → Small devices cells
-  small-of e = let a = both (leb devices 3) (leb cells 16) e in record { devices-to-3 = leb-true devices 3 (a .0); cells-to-16 = leb-true cells 16 (a .1) }
+  small-of e = let a = both-true (leb devices 3) (leb cells 16) e in record { devices-to-3 = leb-true devices 3 (a .0); cells-to-16 = leb-true cells 16 (a .1) }
 
   pub of-small : Small devices cells → small devices cells ≡ true
   of-small s = rw (le-leb devices 3 (s .devices-to-3), le-leb cells 16 (s .cells-to-16))

@@ -13,6 +13,7 @@ use Rattle.protocol.specs.Machine as machine
 use Rattle.protocol.specs.Fits.{Sizes}
 use Rattle.protocol.specs.History as history
 use Rattle.sheet.specs.Sheet.{sheet, started}
+use Rattle.sheet.specs.Answer.{written}
 use Rattle.sheet.specs.declared.Answer.{Answer}
 use Rattle.words.specs.Layout.{DEVICES}
 use Rattle.table.specs.Table.{need, reading, ValidTable}
@@ -20,7 +21,7 @@ use Rattle.lines.specs.Lines.{endedIn, pendingAfter}
 use Rattle.lines.specs.Held.{Held, finishOf}
 use Rattle.steps.specs.Grammar.{LineOf}
 use Rattle.steps.specs.declared.parse.Step.{Step}
-use Rattle.answering.specs.Program.{machine·step, asked, devicesOf, answerTo, written, answersTo, tableAfter, outputOf}
+use Rattle.answering.specs.Program.{machine·step, asked, devicesOf, answerTo, answersTo, tableAfter, outputOf}
 use Rattle.answering.specs.Answered.{Small, Answered}
 use Rattle.stepping.specs.Bytes.{Place, nothing, Told, BytesFed, ChunkFed, Finished, ChunksFed}
 

@@ -15,7 +15,7 @@ use Rattle.protocol.specs.Machine.{choose, given, enqueue, isLive, Round
 use Rattle.protocol.specs.History.{Push, Past, places}
 use Rattle.protocol.proofs.Basics.{above-above}
 use Rattle.protocol.proofs.Holds.{Holds, Split, holds-split}
-use Rattle.protocol.proofs.Invariant.{endOf, Shared, numberThere, Stop, Leads, Chain, Got, Line, DeviceInvariant}
+use Rattle.protocol.proofs.Invariant.{untaken, endOf, Shared, numberThere, Stop, Leads, Chain, Got, Line, DeviceInvariant}
 use Rattle.protocol.proofs.Items.{chain-enqueue, endOf-enqueue, got-stop}
 use Rattle.protocol.proofs.Lines.{line-waits, line-taken, line-told}
 
@@ -32,13 +32,13 @@ module _ (M : Model) where
     pub ps : List (Push M)
     pub made-is : made ≡ g .own (g .top) ++ ps
     pub qs : List (Round M)
-    pub above-is : above M (numberThere M g (g .top)) (x .pending) ≡ take m (x .link .waiting) ++ qs
-    pub left-is : x .link .waiting ≡ above M (numberThere M g (g .top)) (x .pending) → drop m (x .link .waiting) ≡ qs
+    pub above-is : untaken M g x ≡ take m (x .link .waiting) ++ qs
+    pub left-is : x .link .waiting ≡ untaken M g x → drop m (x .link .waiting) ≡ qs
     pub split : Split M (numberThere M g (g .top)) ps (take m (x .link .waiting)) qs (x .buffered) (x .covered)
 
   pub share-of : (g : Shared M) (at : ℕ) (x : Device M) (h : Past M) (m : ℕ) → DeviceInvariant M g at x h → Share g x (h .made) m
   share-of g at x h m v =
-      let f = rounds-first (above M (numberThere M g (g .top)) (x .pending)) (x .link .waiting) m (line-waits M g (above M (numberThere M g (g .top)) (x .pending)) (x .link .channel) (x .link .request) (x .link .connection) (x .link .waiting) (x .link .items) (v .line)) in
+      let f = rounds-first (untaken M g x) (x .link .waiting) m (line-waits M g (untaken M g x) (x .link .channel) (x .link .request) (x .link .connection) (x .link .waiting) (x .link .items) (v .line)) in
       record {
         ps = v .top-own .0;
         made-is = v .top-own .1;
@@ -126,7 +126,7 @@ module _ (M : Model) where
             live-end = v .live-end;
             line =
                 subst (λ (rs : List (Round M)). Line M (grown g sheets own top) rs (x .link .channel) (x .link .request) (x .link .connection) (drop m (x .link .waiting)) (x .link .items)) (sym above-now)
-                (line-taken M g (grown g sheets own top) (above M (numberThere M g (g .top)) (x .pending)) (sh .qs) m (x .link .waiting) (sh .left-is) (x .link .channel) (x .link .request) (x .link .connection) (x .link .items) refl none-taken (v .line));
+                (line-taken M g (grown g sheets own top) (untaken M g x) (sh .qs) m (x .link .waiting) (sh .left-is) (x .link .channel) (x .link .request) (x .link .connection) (x .link .items) refl none-taken (v .line));
             few = v .few;
           }
 
@@ -166,6 +166,6 @@ module _ (M : Model) where
         ends true f t = endOf-enqueue (h .reach) (h .sent) (g .top)
 
         lined : (y : Bool) → (T y → T (isLive (x .link .connection)))
-            → Line M g (above M (numberThere M g (g .top)) (x .pending)) (x .link .channel) (x .link .request) (x .link .connection) (x .link .waiting) (choose y (enqueue (joinItem M) (x .link .items) (segment b ms)) (x .link .items))
+            → Line M g (untaken M g x) (x .link .channel) (x .link .request) (x .link .connection) (x .link .waiting) (choose y (enqueue (joinItem M) (x .link .items) (segment b ms)) (x .link .items))
         lined false f = v .line
-        lined true f = line-told M b ms g (above M (numberThere M g (g .top)) (x .pending)) (x .link .channel) (x .link .request) (x .link .connection) (x .link .waiting) (x .link .items) (f tt) (v .line)
+        lined true f = line-told M b ms g (untaken M g x) (x .link .channel) (x .link .request) (x .link .connection) (x .link .waiting) (x .link .items) (f tt) (v .line)

@@ -11,7 +11,7 @@ use lib.Seq.{drop-nil}
 use Rattle.protocol.specs.Model.{Model}
 use Rattle.protocol.specs.Machine.{choose, joinLast, enqueue, isEstablished, isHeld, isLive, isStale, Channel, off, asked, established, Connection, unheld, live, stale, Round, Item, prefix, segment, joinItem}
 use Rattle.protocol.proofs.Basics.{choose-by}
-use Rattle.protocol.proofs.Invariant.{Shared, numberThere, NoPrefix, PrefixFirst, Idle, NotStale, Line}
+use Rattle.protocol.proofs.Invariant.{Shared, numberThere, NoPrefix, PrefixFirst, Quiet, NotStale, Line}
 
 -- the connection, once the device has replaced or given up its channel
 abbrev pub aged : Connection → Connection
@@ -26,10 +26,10 @@ module _ (M : Model) where
   open Model M using (State, Delta)
 
   -- a connection ends
-  idle-ended : (all : List (Round M)) (c : Connection) (w : List (Round M)) → Idle M all c w → choose (isStale c) [] w ≡ []
-  idle-ended all unheld w h = h
-  idle-ended all live w h = absurd h
-  idle-ended all stale w h = refl
+  quiet-ended : (all : List (Round M)) (c : Connection) (w : List (Round M)) → Quiet M all c w → choose (isStale c) [] w ≡ []
+  quiet-ended all unheld w h = h
+  quiet-ended all live w h = absurd h
+  quiet-ended all stale w h = refl
 
   ended-nil : (c : Connection) (w : List (Round M)) → w ≡ [] → choose (isStale c) [] w ≡ []
   ended-nil unheld w h = h
@@ -44,8 +44,8 @@ module _ (M : Model) where
   module _ (g : Shared M) (all : List (Round M)) where
     pub line-ended : (ch : Channel) (r r′ : Bool) (c : Connection) (w : List (Round M)) (is : List (Item M))
         → (r ≡ false → r′ ≡ false) → Line M g all ch r c w is → Line M g all ch r′ unheld (choose (isStale c) [] w) is
-    line-ended off r r′ c w is f h = (h .0, f (h .1), idle-ended all c w (h .2))
-    line-ended asked r r′ c w is f (inl h) = inl (h .0, idle-ended all c w (h .1))
+    line-ended off r r′ c w is f h = (h .0, f (h .1), quiet-ended all c w (h .2))
+    line-ended asked r r′ c w is f (inl h) = inl (h .0, quiet-ended all c w (h .1))
     line-ended asked r r′ c w is f (inr h) = inr (h .0, ended-nil c w (h .1), f (h .2), tt)
     line-ended established r r′ c w is f h = (h .0, ended-same c w (h .3) ∙ h .1, f (h .2), tt)
 
@@ -56,16 +56,16 @@ module _ (M : Model) where
     line-sent r established q c w is e h = (h .0, ap (λ (l : List (Round M)). l ++ (r ∷ [])) (h .1), h .2, h .3)
 
     -- the channel is replaced or given up
-    pub idle-renewed : (ch : Channel) (r : Bool) (c : Connection) (w : List (Round M)) (is : List (Item M)) → Line M g all ch r c w is → Idle M all (aged c) (choose (isHeld c) w [])
-    idle-renewed ch r unheld w is h = refl
-    idle-renewed off r live w is h = absurd (h .2)
-    idle-renewed off r stale w is h = h .2
-    idle-renewed asked r live w is (inl h) = absurd (h .1)
-    idle-renewed asked r live w is (inr h) = inl (h .1)
-    idle-renewed asked r stale w is (inl h) = h .1
-    idle-renewed asked r stale w is (inr h) = inl (h .1)
-    idle-renewed established r live w is h = inr (h .1)
-    idle-renewed established r stale w is h = inr (h .1)
+    pub quiet-renewed : (ch : Channel) (r : Bool) (c : Connection) (w : List (Round M)) (is : List (Item M)) → Line M g all ch r c w is → Quiet M all (aged c) (choose (isHeld c) w [])
+    quiet-renewed ch r unheld w is h = refl
+    quiet-renewed off r live w is h = absurd (h .2)
+    quiet-renewed off r stale w is h = h .2
+    quiet-renewed asked r live w is (inl h) = absurd (h .1)
+    quiet-renewed asked r live w is (inr h) = inl (h .1)
+    quiet-renewed asked r stale w is (inl h) = h .1
+    quiet-renewed asked r stale w is (inr h) = inl (h .1)
+    quiet-renewed established r live w is h = inr (h .1)
+    quiet-renewed established r stale w is h = inr (h .1)
 
     -- the first item is taken off
     pub line-prefix : (ch : Channel) (r : Bool) (c : Connection) (w : List (Round M)) (s : State) (ns : ℕ → ℕ) (is : List (Item M)) → Line M g all ch r c w (prefix s ns ∷ is)
@@ -111,11 +111,11 @@ module _ (M : Model) where
     nil-left : w ≡ [] → drop m w ≡ []
     nil-left e = ap (drop m) e ∙ drop-nil m
 
-    idle-taken : (c : Connection) → Idle M all c w → Idle M rest c (drop m w)
-    idle-taken unheld i = nil-left i
-    idle-taken live i = i
-    idle-taken stale (inl i) = inl (nil-left i)
-    idle-taken stale (inr i) = inr (left i)
+    quiet-taken : (c : Connection) → Quiet M all c w → Quiet M rest c (drop m w)
+    quiet-taken unheld i = nil-left i
+    quiet-taken live i = i
+    quiet-taken stale (inl i) = inl (nil-left i)
+    quiet-taken stale (inr i) = inr (left i)
 
     prefix-taken : (is : List (Item M)) → g .who ≡ k .who → numberThere M k (k .top) ≡ numberThere M g (g .top) → PrefixFirst M g is → PrefixFirst M k is
     prefix-taken [] u e h = h
@@ -123,8 +123,8 @@ module _ (M : Model) where
     prefix-taken (segment b ms ∷ is) u e h = h
 
     pub line-taken : (ch : Channel) (r : Bool) (c : Connection) (is : List (Item M)) → g .who ≡ k .who → (w ≡ [] → numberThere M k (k .top) ≡ numberThere M g (g .top)) → Line M g all ch r c w is → Line M k rest ch r c (drop m w) is
-    line-taken off r c is u f l = (l .0, l .1, idle-taken c (l .2))
-    line-taken asked r c is u f (inl l) = inl (l .0, idle-taken c (l .1))
+    line-taken off r c is u f l = (l .0, l .1, quiet-taken c (l .2))
+    line-taken asked r c is u f (inl l) = inl (l .0, quiet-taken c (l .1))
     line-taken asked r c is u f (inr l) = inr (prefix-taken is u (f (l .1)) (l .0), nil-left (l .1), l .2, l .3)
     line-taken established r c is u f l = (l .0, left (l .1), l .2, l .3)
 

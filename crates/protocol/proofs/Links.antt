@@ -11,14 +11,14 @@ use lib.Dec.{T}
 use lib.ListN.{length, getD, drop}
 use Rattle.protocol.specs.declared.Refusal.the-variants.{NoChannel, NothingToDrop, NoRequest, NoConnection, Held}
 use Rattle.protocol.specs.Model.{Model}
-use Rattle.protocol.specs.Machine.{choose, given, isOff, isHeld, isLive, Channel, off, asked, live, Round, Item, prefix, segment, Device, Link, above, beyond, gives, sheetAfter, take·first, taken·up, ask·at, drop·at, receive·at, pull·at, accept·at, serverdrop·at, withLink, renewed, cutOff}
+use Rattle.protocol.specs.Machine.{choose, given, isOff, isHeld, isLive, Channel, off, asked, live, Round, Item, prefix, segment, Device, Link, above, beyond, gives, sheetAfter, take·first, ask·at, drop·at, receive·at, pull·at, accept·at, accept·with, serverdrop·at, withLink, renewed, cutOff}
 use Rattle.protocol.specs.History.{Push, Past, places}
 use Rattle.protocol.proofs.Basics.{twice-not, above-above, length-above}
 use Rattle.protocol.proofs.Holds.{Holds}
-use Rattle.protocol.proofs.Invariant.{untaken, endOf, Shared, numberThere, Own, Stop, Chain, Got, PrefixFirst, Idle, Line, LineOf, DeviceInvariant}
+use Rattle.protocol.proofs.Invariant.{untaken, endOf, Shared, numberThere, Own, Stop, Chain, Got, PrefixFirst, Quiet, Line, LineOf, DeviceInvariant}
 use Rattle.protocol.proofs.Items.{chain-from, got-le, got-stop, got-buffer, chain-stop, chain-snoc, endOf-snoc}
 use Rattle.protocol.proofs.Steps.{Kept, unless-kept}
-use Rattle.protocol.proofs.Lines.{aged, aged-not-live, line-ended, idle-renewed, line-prefix, line-segment, requested}
+use Rattle.protocol.proofs.Lines.{aged, aged-not-live, line-ended, quiet-renewed, line-prefix, line-segment, requested}
 
 module _ (M : Model) where
   open Model M using (State, apply)
@@ -42,18 +42,18 @@ module _ (M : Model) where
           few = v .few;
         }
 
-    idle-now : Idle M (untaken M g x) (aged (x .link .connection)) (choose (isHeld (x .link .connection)) (x .link .waiting) [])
-    idle-now = idle-renewed M g (untaken M g x) (x .link .channel) (x .link .request) (x .link .connection) (x .link .waiting) (x .link .items) (v .line)
+    quiet-now : Quiet M (untaken M g x) (aged (x .link .connection)) (choose (isHeld (x .link .connection)) (x .link .waiting) [])
+    quiet-now = quiet-renewed M g (untaken M g x) (x .link .channel) (x .link .request) (x .link .connection) (x .link .waiting) (x .link .items) (v .line)
 
     pub ask-keeps : Kept M (λ y. DeviceInvariant M g at y (places M (h .pulled) (h .reach) [] h)) (ask·at M x)
     unfolding ask·at
-    ask-keeps = linked at (renewed M asked true (x .link)) [] tt (λ t. absurd (aged-not-live (x .link .connection) t)) (inl (refl, idle-now))
+    ask-keeps = linked at (renewed M asked true (x .link)) [] tt (λ t. absurd (aged-not-live (x .link .connection) t)) (inl (refl, quiet-now))
 
     pub drop-keeps : Kept M (λ y. DeviceInvariant M g at y (places M (h .pulled) (h .reach) [] h)) (drop·at M x)
     unfolding drop·at
     drop-keeps =
         unless-kept M (λ y. DeviceInvariant M g at y (places M (h .pulled) (h .reach) [] h)) (isOff (x .link .channel)) NothingToDrop _
-        (λ u. linked at (renewed M off false (x .link)) [] tt (λ t. absurd (aged-not-live (x .link .connection) t)) (refl, refl, idle-now))
+        (λ u. linked at (renewed M off false (x .link)) [] tt (λ t. absurd (aged-not-live (x .link .connection) t)) (refl, refl, quiet-now))
 
     cutOff-keeps : (at′ : ℕ) (r : Bool) → (x .link .request ≡ false → r ≡ false) → DeviceInvariant M g at′ (withLink M x (cutOff M r (x .link))) h
     cutOff-keeps at′ r f =
@@ -72,11 +72,11 @@ module _ (M : Model) where
 
     pub accept-keeps : (s : State) (ns : ℕ → ℕ) → at ≡ g .top → s ≡ g .sheets (g .top) → ns (g .who) ≡ numberThere M g (g .top)
         → Kept M (λ y. DeviceInvariant M g at y (places M (h .pulled) (h .reach) (h .sent ++ (g .top ∷ [])) h)) (accept·at M s ns x)
-    unfolding accept·at
+    unfolding accept·at accept·with
     accept-keeps s ns a es en =
         unless-kept M (λ y. DeviceInvariant M g at y (places M (h .pulled) (h .reach) (h .sent ++ (g .top ∷ [])) h)) (not (x .link .request)) NoRequest _
         (λ t.
-        unless-kept M (λ y. DeviceInvariant M g at y (places M (h .pulled) (h .reach) (h .sent ++ (g .top ∷ [])) h)) (taken·up M x) Held _
+        unless-kept M (λ y. DeviceInvariant M g at y (places M (h .pulled) (h .reach) (h .sent ++ (g .top ∷ [])) h)) (isHeld (x .link .connection)) Held _
         (λ u.
         let f = requested M g (untaken M g x) (x .link .channel) (x .link .request) (x .link .connection) (x .link .waiting) (x .link .items) (twice-not (x .link .request) t) u (v .line) in
         linked at record { channel = x .link .channel; request = false; connection = live; waiting = x .link .waiting; items = x .link .items ++ (prefix s ns ∷ []) } (h .sent ++ (g .top ∷ []))

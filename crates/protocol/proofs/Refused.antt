@@ -4,15 +4,16 @@ use mathlib.Core.Logic.{_↔_}
 use mathlib.Core.Bool.{Bool, true, false, not, _&&_, false≢true}
 use mathlib.Core.List.{List, [], _∷_, cons≢nil}
 use Prim.Native.Nat.{ℕ, _≤_, _<_}
+use native.Mathlib.Nat.{not-suc-le-zero}
 use native.Mathlib.Omega.{arith}
 use lib.Dec.{leb, eqb}
 use lib.ListN.{length}
 use Rattle.protocol.specs.declared.Refusal.the-variants.{NoDevice, NoCell, NotEstablished, NoPush, NoChannel, NoItem, NothingToDrop, NoRequest, NoConnection, PendingFull, PushesSpent, Held}
 use Rattle.protocol.specs.Model.{Model}
-use Rattle.protocol.specs.Machine.{choose, isOff, isEstablished, isHeld, Item, prefix, segment, Device, Table, Answer, take·first, step, view, joined, full, taken·up, done, says·yes, says·no, value, refused, read·at, confirmed·at, update·at, push·at, send·at, ask·at, drop·at, receive·at, pull·at, accept·at, serverdrop·at}
+use Rattle.protocol.specs.Machine.{choose, isOff, isEstablished, isHeld, Item, prefix, segment, Device, Table, Answer, answerOf, take·first, step, view, joined, full, done, says·yes, says·no, value, refused, read·at, confirmed·at, update·at, push·at, send·at, ask·at, drop·at, receive·at, pull·at, accept·at, accept·with, serverdrop·at}
 use Rattle.protocol.specs.Refusals.{Refusals}
 use Rattle.protocol.proofs.Tests.{Test, le-test, zero-test, same-test, not-test, length-nil}
-use Rattle.protocol.proofs.Answers.{differ, answerOf, here, past, clear, absent, three, four, four′, value-inside, nowhere, there, always, model-refused, model-done, model-either}
+use Rattle.protocol.proofs.Answers.{differ, here, past, clear, absent, three, four, four′, value-inside, nowhere, there, always, model-refused, model-done, model-either}
 use Rattle.protocol.proofs.Blocks.{never-plain, block-refused, block-passed}
 
 module _ (M : Model) where
@@ -24,10 +25,7 @@ module _ (M : Model) where
   items-nil d (segment b ms ∷ is) x = (λ e. absurd (differ M {a = done} {z = refused NoItem} refl e), λ e. absurd (cons≢nil e))
 
   items-some : (d : ℕ) (is : List (Item M)) (x : Device M) → (answerOf M (take·first M d is x) ≡ done) ↔ (0 < length is)
-  items-some d [] x = (λ e. absurd (differ M {a = refused NoItem} {z = done} refl e), λ l. absurd (no-less l))
-    where
-      no-less : 0 < 0 → ⊥
-      no-less l = omega arith
+  items-some d [] x = (λ e. absurd (differ M {a = refused NoItem} {z = done} refl e), λ l. absurd (not-suc-le-zero l))
   items-some d (prefix s ns ∷ is) x = (λ e. omega arith, λ l. refl)
   items-some d (segment b ms ∷ is) x = (λ e. omega arith, λ l. refl)
 
@@ -83,7 +81,7 @@ module _ (M : Model) where
     few = le-test 8 (length (x .pending))
 
     pub refused-exactly : Refusals M t d x
-    unfolding step read·at confirmed·at update·at push·at send·at ask·at drop·at receive·at pull·at accept·at serverdrop·at
+    unfolding step read·at confirmed·at update·at push·at send·at ask·at drop·at receive·at pull·at accept·at accept·with serverdrop·at
     refused-exactly =
         record {
           no-device =
@@ -106,7 +104,7 @@ module _ (M : Model) where
                               (
                                 nowhere M t d _ (differ M refl),
                                 (
-                                  nowhere M t d _ (absent M (not (x .link .request)) NoRequest _ (differ M refl) (absent M (taken·up M x) Held _ (differ M refl) (differ M refl))),
+                                  nowhere M t d _ (absent M (not (x .link .request)) NoRequest _ (differ M refl) (absent M (isHeld (x .link .connection)) Held _ (differ M refl) (differ M refl))),
                                   (nowhere M t d _ (absent M (not (isHeld (x .link .connection))) NoConnection _ (differ M refl) (differ M refl)), tt),
                                 ),
                               ),
@@ -138,7 +136,7 @@ module _ (M : Model) where
           receive-7-channel = there M t d _ (differ M refl) (here M _ NoChannel _ (same-test (isOff (x .link .channel))) (items-other d (x .link .items) x (refused NoChannel) (differ M refl) (differ M refl)));
           receive-7-item = three M (there M t d _ (differ M refl) (past M _ NoChannel _ (same-test (isOff (x .link .channel))) (differ M refl) (items-nil d (x .link .items) x)));
           receive-done = three M (there M t d _ (differ M refl) (past M _ NoChannel _ (same-test (isOff (x .link .channel))) (differ M refl) (items-some d (x .link .items) x)));
-          accept-7 = there M t d _ (differ M refl) (here M _ NoRequest _ (not-test (x .link .request)) (absent M (taken·up M x) Held _ (differ M refl) (differ M refl)));
+          accept-7 = there M t d _ (differ M refl) (here M _ NoRequest _ (not-test (x .link .request)) (absent M (isHeld (x .link .connection)) Held _ (differ M refl) (differ M refl)));
           accept-10 = three M (there M t d _ (differ M refl) (past M _ NoRequest _ (not-test (x .link .request)) (differ M refl) (here M _ Held _ (same-test (isHeld (x .link .connection))) (differ M refl))));
           accept-done = three M (there M t d _ (differ M refl) (past M _ NoRequest _ (not-test (x .link .request)) (differ M refl) (clear M _ Held _ (same-test (isHeld (x .link .connection))))));
           serverdrop-7 = there M t d _ (differ M refl) (here M _ NoConnection _ (not-test (isHeld (x .link .connection))) (differ M refl));

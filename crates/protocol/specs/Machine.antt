@@ -153,6 +153,15 @@ module _ (M : Model) where
     fine : Device → Local
     tell : Answer → Local
 
+  -- the answer of what a step comes to, and the device after it
+  abbrev pub answerOf : Local → Answer
+  answerOf (fine y) = done
+  answerOf (tell a) = a
+
+  abbrev pub deviceAfter : Device → Local → Device
+  deviceAfter x (fine y) = y
+  deviceAfter x (tell a) = x
+
   abbrev pub unless : Bool → Refusal → Local → Local
   unless b r l = choose b (tell (refused r)) l
 
@@ -257,16 +266,16 @@ module _ (M : Model) where
   pull·at d x =
       fine record { known = sheetAfter (x .received) (x .known); received = none; pending = beyond (gives d (x .received)) (x .pending); buffered = x .buffered; covered = x .covered; transaction = x .transaction; last = x .last; link = x .link }
 
-  -- "accept while a connection is held", stale or not
-  abbrev pub taken·up : Device → Bool
-  taken·up x = isHeld (x .link .connection)
+  -- "accept takes a device's request and puts the present prefix (sheet and all numbers) on the channel": i is that prefix
+  abbrev pub takenUp : Item → Link → Link
+  takenUp i l = record { channel = l .channel; request = false; connection = live; waiting = l .waiting; items = l .items ++ (i ∷ []) }
 
-  -- "accept takes a device's request and puts the present prefix (sheet and all numbers) on the channel"
+  -- "accept without request"; "accept while a connection is held", stale or not
+  unfoldable pub accept·with : Item → Device → Local
+  accept·with i x = unless (not (x .link .request)) NoRequest (unless (isHeld (x .link .connection)) Held (fine (withLink x (takenUp i (x .link)))))
+
   unfoldable pub accept·at : State → (ℕ → ℕ) → Device → Local
-  accept·at s ns x =
-      unless (not (x .link .request)) NoRequest
-      (unless (taken·up x) Held
-      (fine (withLink x record { channel = x .link .channel; request = false; connection = live; waiting = x .link .waiting; items = x .link .items ++ (prefix s ns ∷ []) })))
+  accept·at s ns x = accept·with (prefix s ns) x
 
   -- a connection ends: rounds on a stale one are gone with it, the device's own channel keeps what waits on it
   abbrev pub cutOff : Bool → Link → Link

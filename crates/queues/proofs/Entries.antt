@@ -10,7 +10,7 @@ use Rattle.words.specs.Place.{Out}
 use Rattle.words.proofs.Places.{Same, below-suc, place-below, set-kept, set-new}
 use Rattle.record.specs.Reading.{queue}
 use Rattle.record.specs.Valid.{InItem}
-use Rattle.record.proofs.Same.{queue-same, round-same, round-valid, item-same, item-valid, in-item}
+use Rattle.record.proofs.Same.{queue-same, round-same, round-valid, item-same, item-valid, in-item, in-item-same}
 use Rattle.queues.specs.Parts.{Entry, roundEntry, itemEntry, PutEntry, EntryBeside, Movable, Moved, QueueIs, Requeued}
 
 -- The words of an entry that are in use are all that it depends on, and they lie in its room.
@@ -27,13 +27,6 @@ round-local cells c = record {
   uses-same = λ xs ys o S i u. u;
   within = λ xs o i u. (u .0, omega arith);
 }
-
--- The words of an item in use are those of its kind.
-pub in-item-same : (devices cells : ℕ) (xs ys : List ℕ) (o : ℕ) → getD ys o 0 ≡ getD xs o 0 → (i : ℕ) → InItem devices cells xs o i → InItem devices cells ys o i
-in-item-same devices cells xs ys o e i InItem.kind = InItem.kind
-in-item-same devices cells xs ys o e i (InItem.number l h) = InItem.number l h
-in-item-same devices cells xs ys o e i (InItem.cell k l h) = InItem.cell (e ∙ k) l h
-in-item-same devices cells xs ys o e i (InItem.change k l h) = InItem.change (e ∙ k) l h
 
 pub item-local : (devices cells : ℕ) → devices ≤ 8 → cells ≤ 64 → LocalEntry (itemEntry devices cells)
 item-local devices cells d c = record {

@@ -1,11 +1,11 @@
 -- Laws of the pending rounds above a number. Assumes nothing.
 use mathlib.Core.Path.{_≡_, refl, sym, ap, _∙_, subst}
-use mathlib.Core.List.{List, _∷_}
+use mathlib.Core.List.{List}
 use Prim.Native.Nat.{ℕ, zero, suc, _+_, _*_, _-_, _≤_, _<_}
 use native.Mathlib.Omega.{arith}
 use lib.ListN.{length, getD, set}
-use borrow.Author.Tests.{le-leb, lt-leb}
 use Rattle.protocol.specs.Machine.{Round, above, beyond}
+use Rattle.protocol.proofs.Basics.{above-skip, above-stop}
 use Rattle.sheet.specs.Sheet.{sheet}
 use Rattle.words.specs.Layout.{QUEUE, ROUND, ROUND·CHANGES, PENDING·LENGTH, WAITING·LENGTH, KNOWN, PENDING, WAITING, RECORD}
 use Rattle.words.specs.Place.{changePlace, Apart, Valid}
@@ -17,20 +17,14 @@ use Rattle.queues.specs.Rounds.{roundsOf, CountedTo, HasPending}
 use Rattle.queues.proofs.Entries.{round-local, queue-moved}
 
 -- "removes pending rounds up to the number": those that are left are the last ones.
-above-gone : (k : ℕ) (r : Round sheet) (rs : List (Round sheet)) → r .number ≤ k → above sheet k (r ∷ rs) ≡ above sheet k rs
-above-gone k r rs h = rw (le-leb (r .number) k h) refl
-
-above-left : (k : ℕ) (r : Round sheet) (rs : List (Round sheet)) → k < r .number → above sheet k (r ∷ rs) ≡ r ∷ rs
-above-left k r rs h = rw (lt-leb (r .number) k h) refl
-
 above-queue : (k s m : ℕ) (f : ℕ → Round sheet) → ((j : ℕ) → j < s → f j .number ≤ k) → (0 < m → k < f s .number) → above sheet k (queue (s + m) f) ≡ queue m (λ j. f (s + j))
 above-queue k zero zero f u n = unfold queue in refl
 above-queue k zero (suc m) f u n =
     let e : 0 + suc m ≡ suc m = omega arith in
-    ap (λ (a : ℕ). above sheet k (queue a f)) e ∙ ap (above sheet k) (queue-first m f) ∙ above-left k (f 0) _ (n (omega arith)) ∙ sym (queue-first m f) ∙ queue-same (suc m) f (λ j. f (0 + j)) (λ j h. let z : j ≡ 0 + j = omega arith in ap f z)
+    ap (λ (a : ℕ). above sheet k (queue a f)) e ∙ ap (above sheet k) (queue-first m f) ∙ above-stop sheet k (f 0) _ (n (omega arith)) ∙ sym (queue-first m f) ∙ queue-same (suc m) f (λ j. f (0 + j)) (λ j h. let z : j ≡ 0 + j = omega arith in ap f z)
 above-queue k (suc s) m f u n =
     let e : suc s + m ≡ suc (s + m) = omega arith in
-    ap (λ (a : ℕ). above sheet k (queue a f)) e ∙ ap (above sheet k) (queue-first (s + m) f) ∙ above-gone k (f 0) (queue (s + m) (λ j. f (suc j))) (u 0 (omega arith)) ∙ above-queue k s m (λ j. f (suc j)) (λ j h. u (suc j) (omega arith)) n
+    ap (λ (a : ℕ). above sheet k (queue a f)) e ∙ ap (above sheet k) (queue-first (s + m) f) ∙ above-skip sheet k (f 0) (queue (s + m) (λ j. f (suc j))) (u 0 (omega arith)) ∙ above-queue k s m (λ j. f (suc j)) (λ j h. u (suc j) (omega arith)) n
     ∙ queue-same m (λ j. f (suc (s + j))) (λ j. f (suc s + j)) (λ j h. let z : suc (s + j) ≡ suc s + j = omega arith in ap f z)
 
 above-counted : (cells : ℕ) (xs : List ℕ) (number s : ℕ) → CountedTo xs number s → above sheet number (roundsOf cells xs PENDING·LENGTH PENDING) ≡ queue (getD xs PENDING·LENGTH 0 - s) (λ j. roundAt cells xs (PENDING + ROUND * s + ROUND * j))

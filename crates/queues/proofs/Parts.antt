@@ -8,7 +8,7 @@ use native.Mathlib.Omega.{arith}
 use lib.ListN.{length, getD}
 use Rattle.cells.specs.declared.Cell.the-variants.{Blank}
 use Rattle.cells.specs.declared.Change.the-variants.{Nothing}
-use Rattle.protocol.specs.Machine.{Device, Item, fine, Channel, Connection}
+use Rattle.protocol.specs.Machine.{answerOf, deviceAfter, Device, Item, fine, Channel, Connection}
 use Rattle.protocol.specs.Machine as machine
 use Rattle.sheet.specs.Sheet.{sheet}
 use Rattle.sheet.specs.declared.Answer.the-variants.{Done}
@@ -18,7 +18,7 @@ use Rattle.words.proofs.Places.{Local, Same, cell-local, change-local}
 use Rattle.record.specs.Reading.{placesAt, receivedAt, channelOf, connectionOf, requestOf, linkOf, deviceOf}
 use Rattle.record.specs.Valid.{InItem, InUse, ValidItem, ValidRecord, IsRecord}
 use Rattle.record.proofs.Same.{places-same, places-valid, received-same, received-valid, in-item}
-use Rattle.record.specs.Did.{Did, answerOf, deviceAfter}
+use Rattle.record.specs.Did.{Did}
 use Rattle.queues.specs.Parts.{PlacesAre, QueueIs, roundEntry, itemEntry}
 use Rattle.queues.proofs.Entries.{round-local, item-local, queue-kept}
 
@@ -100,8 +100,8 @@ module _ (devices cells : ℕ) (xs : List ℕ) where
 -- A step that is done: its device by its parts.
 pub did-parts : (devices cells : ℕ) (f : Device sheet → machine.Local sheet) (xs ys : List ℕ) (y : Device sheet) → f (deviceOf devices cells xs) ≡ fine y → Parts devices cells ys y → getD ys TAKEN 0 ≡ getD xs TAKEN 0 → ((i : ℕ) → (InUse devices cells ys i → ⊥) → getD ys i 0 ≡ getD xs i 0) → Did devices cells f xs Done ys
 did-parts devices cells f xs ys y e P t k = record {
-  answer = sym (ap answerOf e);
-  after = parts-say devices cells ys y P ∙ sym (ap (deviceAfter (deviceOf devices cells xs)) e);
+  answer = sym (ap (answerOf sheet) e);
+  after = parts-say devices cells ys y P ∙ sym (ap (deviceAfter sheet (deviceOf devices cells xs)) e);
   taken = t;
   valid = parts-valid devices cells ys y P;
   kept = k;

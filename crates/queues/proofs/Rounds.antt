@@ -14,7 +14,7 @@ use Rattle.record.specs.Reading.{roundAt}
 use Rattle.record.proofs.Loops.{copied}
 use Rattle.record.proofs.Same.{places-same, places-valid}
 use Rattle.queues.specs.Parts.{roundEntry, PutEntry, Movable, Moved, Requeued}
-use Rattle.queues.specs.Rounds.{roundFrom, roundsOf, added, Addable}
+use Rattle.queues.specs.Rounds.{roundFrom, roundsOf, withRound, Addable}
 use Rattle.queues.proofs.Entries.{round-local, next-valid, queue-added}
 
 -- A round is stored: the number, then its changes.
@@ -55,7 +55,7 @@ module _ (cells : ℕ) (xs : List ℕ) (l o : ℕ) (A : Addable cells xs l o) wh
   pub add-out : Out BUFFERED (CHANGE * cells) (o + ROUND * getD xs l 0)
   add-out a b = omega (arith, A .few-cells, A .behind)
 
-  pub round-added : (ys : List ℕ) → l < length ys → PutEntry (roundEntry cells) xs ys (o + ROUND * getD xs l 0) (roundFrom cells xs (getD xs LAST 0) BUFFERED) → Requeued (roundEntry cells) xs (set ys l (getD xs l 0 + 1)) l o (added cells xs l o)
+  pub round-added : (ys : List ℕ) → l < length ys → PutEntry (roundEntry cells) xs ys (o + ROUND * getD xs l 0) (roundFrom cells xs (getD xs LAST 0) BUFFERED) → Requeued (roundEntry cells) xs (set ys l (getD xs l 0 + 1)) l o (withRound cells xs l o)
   round-added ys h W =
       queue-added (roundEntry cells) (round-local cells (A .few-cells)) xs ys l o _ (roundsOf cells xs l o) record { is = refl; few = omega (arith, A .room); valid = A .rounds } W (omega (arith, A .single, A .behind)) h (A .room)
 

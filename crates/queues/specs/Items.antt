@@ -1,4 +1,4 @@
--- Items in a record, as the helpers of a step speak of them. Assumes nothing.
+-- Document 01's items, in "a receive buffer of at most one item" and in the queue, as they lie in a record. Assumes nothing.
 use mathlib.Core.Path.{_≡_}
 use mathlib.Core.List.{List}
 use mathlib.Core.Option.{Option, none, some}

@@ -1,4 +1,4 @@
--- The parts of a device's record, as the helpers of a step speak of them. Assumes nothing.
+-- Document 01's queues (rounds pending and waiting, items) as they lie in a device's record. Assumes nothing.
 use mathlib.Core.Path.{_≡_}
 use mathlib.Core.List.{List}
 use Prim.Native.Nat.{ℕ, _+_, _*_, _≤_, _<_}

@@ -1,4 +1,4 @@
--- Rounds in a record's queues, as the helpers of a step speak of them. Assumes nothing.
+-- Document 01's rounds, "numbered with its last push", as they lie in a record's queues. Assumes nothing.
 use mathlib.Core.Path.{_≡_}
 use mathlib.Core.List.{List, [], _∷_, _++_}
 use Prim.Native.Nat.{ℕ, _+_, _*_, _≤_, _<_}
@@ -18,8 +18,8 @@ abbrev pub roundsOf : (cells : ℕ) → List ℕ → (l o : ℕ) → List (Round
 roundsOf cells xs l o = queue (getD xs l 0) (λ j. roundAt cells xs (o + ROUND * j))
 
 -- These, and a round of the push buffer, "numbered with its last push".
-abbrev pub added : (cells : ℕ) → List ℕ → (l o : ℕ) → List (Round sheet)
-added cells xs l o = roundsOf cells xs l o ++ (roundFrom cells xs (getD xs LAST 0) BUFFERED ∷ [])
+abbrev pub withRound : (cells : ℕ) → List ℕ → (l o : ℕ) → List (Round sheet)
+withRound cells xs l o = roundsOf cells xs l o ++ (roundFrom cells xs (getD xs LAST 0) BUFFERED ∷ [])
 
 -- What adding a round to the queue from o on asks, whose length is the word at l: it is a queue of the record, and has room.
 pub record Addable (cells : ℕ) (xs : List ℕ) (l o : ℕ) : Type 0 where

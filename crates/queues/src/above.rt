@@ -40,6 +40,7 @@ pub fn forget(r: &mut [u64], word: u64, cells: usize)
         return;
     }
     let gone = count_to(r, word - 1);
+    // where none goes nothing is moved: a round is never stored over itself
     if gone == 0 {
         return;
     }

@@ -1,6 +1,6 @@
 // Items: a prefix or a segment, in the receive buffer and in the queue of items.
-ghost use Prim.Native.Nat.{_+_, _*_, _-_, _≤_};
-ghost use Rattle.words.specs.Layout.{ITEM, ITEMS, ITEMS·LENGTH};
+ghost use Prim.Native.Nat.{_+_, _*_, _≤_};
+ghost use Rattle.words.specs.Layout.{ITEM, ITEMS, ITEMS·LENGTH, MOST·CELLS, MOST·DEVICES};
 ghost use Rattle.protocol.specs.Machine.{joinItem};
 ghost use Rattle.record.specs.Reading.{itemAt};
 ghost use Rattle.sheet.specs.Sheet.{sheet};
@@ -21,7 +21,7 @@ use words::run::take_numbers;
 
 // Stores the item from `from` on as the one from `to` on.
 pub fn copy_item(r: &mut [u64], from: usize, to: usize, devices: usize, cells: usize)
-    requires { ⌜ EntryBeside (itemEntry devices cells) (now r) to from × (devices ≤ 8) × (cells ≤ 64) ⌝ }
+    requires { ⌜ EntryBeside (itemEntry devices cells) (now r) to from × (devices ≤ MOST·DEVICES) × (cells ≤ MOST·CELLS) ⌝ }
     ensures { λ _. ⌜ PutEntry (itemEntry devices cells) (now (r .entry)) (now (r .exit)) to (itemAt devices cells (now (r .entry)) from) ⌝ }
 {
     let kind = r[from];
@@ -50,7 +50,7 @@ pub fn join_item(r: &mut [u64], to: usize, from: usize, devices: usize, cells: u
 
 // Moves the n items from `from` on to `to` on, the first one first.
 fn move_items(r: &mut [u64], from: usize, to: usize, n: usize, devices: usize, cells: usize)
-    requires { ⌜ Movable (itemEntry devices cells) (now r) to from n × (devices ≤ 8) × (cells ≤ 64) ⌝ }
+    requires { ⌜ Movable (itemEntry devices cells) (now r) to from n × (devices ≤ MOST·DEVICES) × (cells ≤ MOST·CELLS) ⌝ }
     ensures { λ _. ⌜ Moved (itemEntry devices cells) (now (r .entry)) (now (r .exit)) to n (λ j. itemAt devices cells (now (r .entry)) (from + ITEM * j)) ⌝ }
 {
     let mut j = 0;

@@ -1,7 +1,7 @@
 -- A record whose device fits meets the conditions on its words. Assumes nothing.
 use mathlib.Core.Path.{_≡_, sym, ap, _∙_, subst}
 use mathlib.Core.Bool.{true}
-use mathlib.Core.List.{List, []}
+use mathlib.Core.List.{List}
 use mathlib.Core.Option.{some}
 use Prim.Native.Nat.{ℕ, zero, suc, _+_, _*_, _-_, _≤_, _<_}
 use native.Mathlib.Omega.{arith}
@@ -15,7 +15,7 @@ use Rattle.record.specs.Valid.{ValidRecord, IsRecord}
 use Rattle.record.specs.Conditions.{Singles, Lengths, Channels, Requests, DueItem, GoodPending, GoodWaiting, Sheets}
 use Rattle.record.proofs.Queues.{queue-length, queue-at, same-entries}
 use Rattle.record.proofs.Meanings.{channel-asked, is-not-established, is-not-stale, is-request, queue-empty, prefix-kind, kind-prefix, gives-is, numbers-are}
-use Rattle.record.proofs.Said.{pend, wait, item, pending-number, pending-length, waiting-length, last-numbers}
+use Rattle.record.proofs.Said.{pendingRounds, waitingRounds, item, pending-number, pending-length, waiting-length, last-numbers}
 
 module _ (devices cells : ℕ) (xs : List ℕ) (size : length xs ≡ RECORD) where
   module _ (R : IsRecord devices cells xs) where
@@ -36,7 +36,7 @@ module _ (devices cells : ℕ) (xs : List ℕ) (size : length xs ≡ RECORD) whe
         let a = ap length (numbers-are cells xs WAITING (getD xs WAITING·LENGTH 0)) ∙ queue-length _ _ in
         let b = ap length (numbers-are cells xs PENDING (getD xs PENDING·LENGTH 0)) ∙ queue-length _ _ in
         let w = (waiting-length devices cells xs) in
-        let d = length-drop (length (numbers sheet (pend devices cells xs)) - length (wait devices cells xs)) (numbers sheet (pend devices cells xs)) in
+        let d = length-drop (length (numbers sheet (pendingRounds devices cells xs)) - length (waitingRounds devices cells xs)) (numbers sheet (pendingRounds devices cells xs)) in
         omega arith
 
     pub is-lengths : Lengths xs
@@ -121,7 +121,7 @@ module _ (devices cells : ℕ) (xs : List ℕ) (size : length xs ≡ RECORD) whe
               let q : suc i ≡ j = omega arith in
               let o : PENDING + ROUND * j - ROUND ≡ PENDING + ROUND * i = omega arith in
               let m = (pending-number devices cells xs) i (omega arith) in
-              let r = subst (λ (k : ℕ). numberAt sheet (pend devices cells xs) i < numberAt sheet (pend devices cells xs) k) q (F .numbers-rise i (omega arith)) in
+              let r = subst (λ (k : ℕ). numberAt sheet (pendingRounds devices cells xs) i < numberAt sheet (pendingRounds devices cells xs) k) q (F .numbers-rise i (omega arith)) in
               rw o (rw (m, n) at r);
           valid = ok .pending j h;
         }

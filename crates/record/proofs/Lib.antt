@@ -2,6 +2,7 @@ pub mod Same
 pub mod Queues
 pub mod Loops
 pub mod One
+pub mod SameQueues
 pub mod OneRecord
 pub mod Read
 pub mod Meanings

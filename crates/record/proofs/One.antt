@@ -1,4 +1,4 @@
--- Valid words are given by what they say: two records that say the same have the same words in use. Assumes nothing.
+-- Valid words are given by what they say: those of a place, of a run of places, of an item. Assumes nothing.
 use mathlib.Core.Path.{_≡_, refl, sym, ap, _∙_, subst}
 use mathlib.Core.Bool.{true}
 use mathlib.Core.List.{List}

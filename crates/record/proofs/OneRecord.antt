@@ -12,9 +12,10 @@ use Rattle.sheet.specs.Sheet.{sheet}
 use Rattle.words.specs.Layout.{CHANGE, ROUND, ROUND·CHANGES, ITEM, TAKEN, PENDING·LENGTH, WAITING·LENGTH, ITEMS·LENGTH, KNOWN, TRANSACTION, BUFFERED, RECEIVED, PENDING, WAITING, ITEMS}
 use Rattle.words.specs.Place.{cellPlace, changePlace, Valid}
 use Rattle.words.proofs.Places.{lt-or-ge}
-use Rattle.record.specs.Reading.{queue, roundAt, itemAt, bufferOf, receivedAt, channelOf, connectionOf, requestOf, linkOf, deviceOf}
+use Rattle.record.specs.Reading.{roundAt, itemAt, bufferOf, channelOf, connectionOf, requestOf, linkOf, deviceOf}
 use Rattle.record.specs.Valid.{InItem, InUse, ValidRecord}
 use Rattle.record.proofs.Queues.{same-lengths, same-entries}
+use Rattle.record.proofs.SameQueues.{SameQueues, one-device, same-link, same-pending, same-waiting, same-items, same-received}
 use Rattle.record.proofs.One.{cell-one, change-one, places-words, item-words}
 
 channel-one : (a b : ℕ) → a ≤ 2 → b ≤ 2 → channelOf a ≡ channelOf b → a ≡ b
@@ -58,8 +59,11 @@ round-words cells xs ys o X Y e i l h = ⊎-elim
     (lt-or-ge i (o + ROUND·CHANGES))
 
 module _ (devices cells : ℕ) (xs ys : List ℕ) (X : ValidRecord devices cells xs) (Y : ValidRecord devices cells ys) (taken : getD xs TAKEN 0 ≡ getD ys TAKEN 0) (e : deviceOf devices cells xs ≡ deviceOf devices cells ys) where
+  same : SameQueues (deviceOf devices cells xs) (deviceOf devices cells ys)
+  same = one-device _ _ e
+
   links : linkOf devices cells xs ≡ linkOf devices cells ys
-  links = unfold deviceOf in (ap (λ (x : Device sheet). x .link) e)
+  links = same-link devices cells xs ys same
 
   single-words : (i : ℕ) → i < KNOWN → getD xs i 0 ≡ getD ys i 0
   unfolding deviceOf linkOf
@@ -80,21 +84,9 @@ module _ (devices cells : ℕ) (xs ys : List ℕ) (X : ValidRecord devices cells
   buffer-words i zero (suc b) p q r w = let z : _≡_ {A = ℕ} 0 1 = cc in absurd (omega arith)
   buffer-words i (suc a) zero p q r w = let z : _≡_ {A = ℕ} 0 1 = cc in absurd (omega arith)
   buffer-words i (suc a) (suc b) p q r w =
-      let same : itemAt devices cells xs RECEIVED ≡ itemAt devices cells ys RECEIVED = cc in
-      let words = item-words devices cells xs ys RECEIVED (X .received (omega arith)) (Y .received (omega arith)) same in
+      let one : itemAt devices cells xs RECEIVED ≡ itemAt devices cells ys RECEIVED = cc in
+      let words = item-words devices cells xs ys RECEIVED (X .received (omega arith)) (Y .received (omega arith)) one in
       ⊎-elim (λ k. rw k (words RECEIVED InItem.kind)) (λ u. words i (u .1)) w
-
-  received-is : bufferOf (getD xs RECEIVED 0) (itemAt devices cells xs RECEIVED) ≡ bufferOf (getD ys RECEIVED 0) (itemAt devices cells ys RECEIVED)
-  received-is = unfold deviceOf receivedAt in (ap (λ (x : Device sheet). x .received) e)
-
-  pendings : queue (getD xs PENDING·LENGTH 0) (λ j. roundAt cells xs (PENDING + ROUND * j)) ≡ queue (getD ys PENDING·LENGTH 0) (λ j. roundAt cells ys (PENDING + ROUND * j))
-  pendings = unfold deviceOf in (ap (λ (x : Device sheet). x .pending) e)
-
-  waitings : queue (getD xs WAITING·LENGTH 0) (λ j. roundAt cells xs (WAITING + ROUND * j)) ≡ queue (getD ys WAITING·LENGTH 0) (λ j. roundAt cells ys (WAITING + ROUND * j))
-  waitings = unfold linkOf in (ap (λ (l : Link sheet). l .waiting) links)
-
-  itemses : queue (getD xs ITEMS·LENGTH 0) (λ j. itemAt devices cells xs (ITEMS + ITEM * j)) ≡ queue (getD ys ITEMS·LENGTH 0) (λ j. itemAt devices cells ys (ITEMS + ITEM * j))
-  itemses = unfold linkOf in (ap (λ (l : Link sheet). l .items) links)
 
   pub record-words : (i : ℕ) → InUse devices cells xs i → getD xs i 0 ≡ getD ys i 0
   unfolding deviceOf
@@ -102,14 +94,14 @@ module _ (devices cells : ℕ) (xs ys : List ℕ) (X : ValidRecord devices cells
   record-words i (InUse.known l h) = places-words cellPlace cell-one Blank cells xs ys KNOWN (X .known) (Y .known) (ap (λ (x : Device sheet). x .known) e) i l h
   record-words i (InUse.transaction l h) = places-words changePlace change-one Nothing cells xs ys TRANSACTION (X .transaction) (Y .transaction) (ap (λ (x : Device sheet). x .transaction) e) i l h
   record-words i (InUse.buffered l h) = places-words changePlace change-one Nothing cells xs ys BUFFERED (X .buffered) (Y .buffered) (ap (λ (x : Device sheet). x .buffered) e) i l h
-  record-words i InUse.buffer-kind = buffer-words RECEIVED _ _ refl refl received-is (_⊎_.inl refl)
-  record-words i (InUse.received k u) = buffer-words i _ _ refl refl received-is (_⊎_.inr (k, u))
+  record-words i InUse.buffer-kind = buffer-words RECEIVED _ _ refl refl (same-received devices cells xs ys same) (_⊎_.inl refl)
+  record-words i (InUse.received k u) = buffer-words i _ _ refl refl (same-received devices cells xs ys same) (_⊎_.inr (k, u))
   record-words i (InUse.pending j k l h) =
       let n = single-words PENDING·LENGTH (omega arith) in
-      round-words cells xs ys (PENDING + ROUND * j) (X .pending j k) (Y .pending j (omega arith)) (same-entries _ _ _ _ pendings j k) i l h
+      round-words cells xs ys (PENDING + ROUND * j) (X .pending j k) (Y .pending j (omega arith)) (same-entries _ _ _ _ (same-pending devices cells xs ys same) j k) i l h
   record-words i (InUse.waiting j k l h) =
       let n = single-words WAITING·LENGTH (omega arith) in
-      round-words cells xs ys (WAITING + ROUND * j) (X .waiting j k) (Y .waiting j (omega arith)) (same-entries _ _ _ _ waitings j k) i l h
+      round-words cells xs ys (WAITING + ROUND * j) (X .waiting j k) (Y .waiting j (omega arith)) (same-entries _ _ _ _ (same-waiting devices cells xs ys same) j k) i l h
   record-words i (InUse.items j k u) =
       let n = single-words ITEMS·LENGTH (omega arith) in
-      item-words devices cells xs ys (ITEMS + ITEM * j) (X .items j k) (Y .items j (omega arith)) (same-entries _ _ _ _ itemses j k) i u
+      item-words devices cells xs ys (ITEMS + ITEM * j) (X .items j k) (Y .items j (omega arith)) (same-entries _ _ _ _ (same-items devices cells xs ys same) j k) i u

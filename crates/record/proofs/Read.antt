@@ -6,22 +6,16 @@ use native.Mathlib.Omega.{arith}
 use lib.ListN.{length, getD}
 use Rattle.cells.specs.declared.Cell.the-variants.{Blank}
 use Rattle.cells.specs.declared.Change.the-variants.{Nothing}
-use Rattle.words.specs.Layout.{ROUND, ITEM, LAST, TAKEN, CHANNEL, REQUEST, CONNECTION, COVERED, PENDING·LENGTH, WAITING·LENGTH, ITEMS·LENGTH, KNOWN, TRANSACTION, BUFFERED, RECEIVED, PENDING, WAITING, ITEMS, RECORD}
+use Rattle.words.specs.Layout.{ROUND, ITEM, LAST, CHANNEL, REQUEST, CONNECTION, COVERED, PENDING·LENGTH, WAITING·LENGTH, ITEMS·LENGTH, KNOWN, TRANSACTION, BUFFERED, RECEIVED, PENDING, WAITING, ITEMS, RECORD}
 use Rattle.words.specs.Place.{cellPlace, changePlace}
 use Rattle.words.proofs.Places.{cell-local, change-local}
 use Rattle.record.specs.Reading.{queue, roundAt, itemAt, channelOf, connectionOf, requestOf, linkOf, deviceOf}
 use Rattle.record.specs.Valid.{InItem, InUse, ValidRecord}
-use Rattle.record.proofs.Same.{places-same, places-valid, rounds-same, rounds-valid, items-same, items-valid, received-same, received-valid}
+use Rattle.record.proofs.Same.{places-same, places-valid, rounds-same, rounds-valid, items-same, items-valid, received-same, received-valid, in-item-same}
 
 module _ (devices cells : ℕ) (xs ys : List ℕ) (S : (i : ℕ) → InUse devices cells xs i → getD ys i 0 ≡ getD xs i 0) where
   single : (i : ℕ) → i < KNOWN → getD ys i 0 ≡ getD xs i 0
   single i h = S i (InUse.single h)
-
-  in-item-back : (o i : ℕ) → getD ys o 0 ≡ getD xs o 0 → InItem devices cells ys o i → InItem devices cells xs o i
-  in-item-back o i k InItem.kind = InItem.kind
-  in-item-back o i k (InItem.number l h) = InItem.number l h
-  in-item-back o i k (InItem.cell p l h) = InItem.cell (sym k ∙ p) l h
-  in-item-back o i k (InItem.change p l h) = InItem.change (sym k ∙ p) l h
 
   -- the words that are in use are the same words
   pub in-use-back : (i : ℕ) → InUse devices cells ys i → InUse devices cells xs i
@@ -30,13 +24,13 @@ module _ (devices cells : ℕ) (xs ys : List ℕ) (S : (i : ℕ) → InUse devic
   in-use-back i (InUse.transaction l h) = InUse.transaction l h
   in-use-back i (InUse.buffered l h) = InUse.buffered l h
   in-use-back i InUse.buffer-kind = InUse.buffer-kind
-  in-use-back i (InUse.received h u) = let k = S RECEIVED InUse.buffer-kind in InUse.received (omega arith) (in-item-back RECEIVED i k u)
+  in-use-back i (InUse.received h u) = let k = S RECEIVED InUse.buffer-kind in InUse.received (omega arith) (in-item-same devices cells ys xs RECEIVED (sym k) i u)
   in-use-back i (InUse.pending j h l b) = let n = single PENDING·LENGTH (omega arith) in InUse.pending j (omega arith) l b
   in-use-back i (InUse.waiting j h l b) = let n = single WAITING·LENGTH (omega arith) in InUse.waiting j (omega arith) l b
   in-use-back i (InUse.items j h u) =
       let n = single ITEMS·LENGTH (omega arith) in
       let b : j < getD xs ITEMS·LENGTH 0 = omega arith in
-      InUse.items j b (in-item-back (ITEMS + ITEM * j) i (S (ITEMS + ITEM * j) (InUse.items j b InItem.kind)) u)
+      InUse.items j b (in-item-same devices cells ys xs (ITEMS + ITEM * j) (sym (S (ITEMS + ITEM * j) (InUse.items j b InItem.kind))) i u)
 
   module _ (X : ValidRecord devices cells xs) where
     pub same-link : linkOf devices cells ys ≡ linkOf devices cells xs

@@ -1,7 +1,7 @@
 -- The queues of a record, as the conditions speak of them. Assumes nothing.
 use mathlib.Core.Path.{_≡_, sym, ap, _∙_}
-use mathlib.Core.Logic.{_⊎_, ⊎-elim}
-use mathlib.Core.List.{List, []}
+use mathlib.Core.Logic.{⊎-elim}
+use mathlib.Core.List.{List}
 use mathlib.Core.Option.{Option, none, some}
 use Prim.Native.Nat.{ℕ, _+_, _*_, _-_, _≤_, _<_}
 use native.Mathlib.Omega.{arith}
@@ -16,33 +16,33 @@ use Rattle.record.proofs.Queues.{queue-length, queue-at, queue-past, qu
 use Rattle.record.proofs.Meanings.{numbers-are, number-is}
 
 module _ (devices cells : ℕ) (xs : List ℕ) where
-  abbrev pub pend : List (Round sheet)
-  pend = queue (getD xs PENDING·LENGTH 0) (λ j. roundAt cells xs (PENDING + ROUND * j))
+  abbrev pub pendingRounds : List (Round sheet)
+  pendingRounds = queue (getD xs PENDING·LENGTH 0) (λ j. roundAt cells xs (PENDING + ROUND * j))
 
-  abbrev pub wait : List (Round sheet)
-  wait = queue (getD xs WAITING·LENGTH 0) (λ j. roundAt cells xs (WAITING + ROUND * j))
+  abbrev pub waitingRounds : List (Round sheet)
+  waitingRounds = queue (getD xs WAITING·LENGTH 0) (λ j. roundAt cells xs (WAITING + ROUND * j))
 
   abbrev pub item : ℕ → Item sheet
   item j = itemAt devices cells xs (ITEMS + ITEM * j)
 
-  pub pending-number : (i : ℕ) → i < getD xs PENDING·LENGTH 0 → numberAt sheet pend i ≡ getD xs (PENDING + ROUND * i) 0
+  pub pending-number : (i : ℕ) → i < getD xs PENDING·LENGTH 0 → numberAt sheet pendingRounds i ≡ getD xs (PENDING + ROUND * i) 0
   pending-number i h = number-is cells xs PENDING (getD xs PENDING·LENGTH 0) i h
 
-  pub pending-length : length pend ≡ getD xs PENDING·LENGTH 0
+  pub pending-length : length pendingRounds ≡ getD xs PENDING·LENGTH 0
   pending-length = queue-length _ _
 
-  pub waiting-length : length wait ≡ getD xs WAITING·LENGTH 0
+  pub waiting-length : length waitingRounds ≡ getD xs WAITING·LENGTH 0
   waiting-length = queue-length _ _
 
   -- the numbers of the last w pending rounds
-  pub last-numbers : getD xs WAITING·LENGTH 0 ≤ getD xs PENDING·LENGTH 0 → lastOf (length wait) (numbers sheet pend)
+  pub last-numbers : getD xs WAITING·LENGTH 0 ≤ getD xs PENDING·LENGTH 0 → lastOf (length waitingRounds) (numbers sheet pendingRounds)
       ≡ queue (getD xs WAITING·LENGTH 0) (λ j. getD xs (PENDING + ROUND * (getD xs PENDING·LENGTH 0 - getD xs WAITING·LENGTH 0 + j)) 0)
   last-numbers h =
       let p : ℕ = getD xs PENDING·LENGTH 0 in
       let w : ℕ = getD xs WAITING·LENGTH 0 in
       let e : p - w + w ≡ p = omega arith in
       let l = queue-length p (λ j. getD xs (PENDING + ROUND * j) 0) in
-      ap (λ (q : List ℕ). lastOf (length wait) q) (numbers-are cells xs PENDING p)
+      ap (λ (q : List ℕ). lastOf (length waitingRounds) q) (numbers-are cells xs PENDING p)
       ∙ (λ i. drop (l i - waiting-length i) (queue p (λ j. getD xs (PENDING + ROUND * j) 0)))
       ∙ ap (λ (n : ℕ). drop (p - w) (queue n (λ j. getD xs (PENDING + ROUND * j) 0))) (sym e)
       ∙ queue-drop (p - w) w (λ j. getD xs (PENDING + ROUND * j) 0)

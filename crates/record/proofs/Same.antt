@@ -1,6 +1,6 @@
 -- Where words stay, what they say stays, and they stay valid. Assumes nothing.
 use mathlib.Core.Path.{_≡_, refl, sym, ap, _∙_, fun-ext}
-use mathlib.Core.Logic.{_⊎_, ⊎-elim}
+use mathlib.Core.Logic.{⊎-elim}
 use mathlib.Core.List.{List, [], _∷_, _++_}
 use mathlib.Core.Option.{some}
 use Prim.Native.Nat.{ℕ, zero, suc, _+_, _*_, _-_, _≤_, _<_}
@@ -19,6 +19,15 @@ use Rattle.record.specs.Valid.{InItem, InUse, ValidItem, ValidRecord}
 -- Two readings that are cut at the same number agree where they agree below it.
 pub below-same : {A : Type 0} (n : ℕ) (f g : ℕ → A) (past : A) → ((c : ℕ) → c < n → f c ≡ g c) → below n f past ≡ below n g past
 below-same n f g past h = fun-ext (λ c. ⊎-elim (λ l. rw (lt-ltb c n l) (h c l)) (λ k. rw (le-ltb c n k) refl) (lt-or-ge c n))
+
+-- A reading that is past the cut what it is cut to.
+pub below-all : {A : Type 0} (n : ℕ) (f : ℕ → A) (past : A) → ((c : ℕ) → n ≤ c → f c ≡ past) → (c : ℕ) → below n f past c ≡ f c
+below-all n f past h c = ⊎-elim (λ l. rw (lt-ltb c n l) refl) (λ g. rw (le-ltb c n g) (sym (h c g))) (lt-or-ge c n)
+
+-- One of the places, below the cut.
+pub place-in : (P : Place) (past : P .Holds) (cells : ℕ) (xs : List ℕ) (o c : ℕ) → c < cells → placesAt P past cells xs o c ≡ P .valueAt xs (o + P .width * c)
+unfolding placesAt
+place-in P past cells xs o c h = rw (lt-ltb c cells h) refl
 
 -- Part of a run of words that stay.
 pub same-part : (xs ys : List ℕ) (o n p m : ℕ) → Same xs ys o n → o ≤ p → p + m ≤ o + n → Same xs ys p m
@@ -124,6 +133,13 @@ module _ (devices cells : ℕ) (xs ys : List ℕ) where
 
     pub received-valid : 0 < getD ys o 0 → ValidItem devices cells ys o
     received-valid h = let p : 0 < getD xs o 0 = omega arith in item-valid o (S p) (ok p)
+
+-- The words of an item in use are those of its kind.
+pub in-item-same : (devices cells : ℕ) (xs ys : List ℕ) (o : ℕ) → getD ys o 0 ≡ getD xs o 0 → (i : ℕ) → InItem devices cells xs o i → InItem devices cells ys o i
+in-item-same devices cells xs ys o e i InItem.kind = InItem.kind
+in-item-same devices cells xs ys o e i (InItem.number l h) = InItem.number l h
+in-item-same devices cells xs ys o e i (InItem.cell k l h) = InItem.cell (e ∙ k) l h
+in-item-same devices cells xs ys o e i (InItem.change k l h) = InItem.change (e ∙ k) l h
 
 -- The words in use of an item lie in its room.
 pub in-item : (devices cells : ℕ) (xs : List ℕ) (o i : ℕ) → devices ≤ 8 → cells ≤ 64 → InItem devices cells xs o i → (o ≤ i) × (i < o + ITEM)

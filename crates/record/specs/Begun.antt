@@ -1,4 +1,5 @@
--- A record at first. Assumes nothing.
+-- A record at first. Document 01: the last push number "first 0", a channel "none at first"; opened, it "continues its number, and has no channel".
+-- Assumes nothing.
 use mathlib.Core.Path.{_≡_}
 use mathlib.Core.List.{List}
 use Prim.Native.Nat.{ℕ}

@@ -1,5 +1,5 @@
--- Document 01's conditions on a device, as its record's words have them; proofs/Conditions.antt proves that together they are `IsRecord`.
--- Assumes nothing.
+-- Document 01's conditions on a device, as its record's words have them; proofs/Conditions.antt here and proofs/Fitting.antt of checking prove,
+-- each one way, that together they are `IsRecord`. Assumes nothing.
 use mathlib.Core.Path.{_≡_}
 use mathlib.Core.List.{List}
 use Prim.Native.Nat.{ℕ, _+_, _*_, _-_, _≤_, _<_}
@@ -20,15 +20,21 @@ pub record Singles (xs : List ℕ) : Type 0 where
 -- "queues within the allowed lengths"
 pub record Lengths (xs : List ℕ) : Type 0 where
   pub pending : getD xs PENDING·LENGTH 0 ≤ QUEUE
-  pub waiting : getD xs WAITING·LENGTH 0 ≤ getD xs PENDING·LENGTH 0
   pub items : getD xs ITEMS·LENGTH 0 ≤ QUEUE
+  -- "rounds waiting on a channel are numbered as its device's last pending ones": no more wait than are pending
+  pub waiting : getD xs WAITING·LENGTH 0 ≤ getD xs PENDING·LENGTH 0
 
 -- What waits has its channel.
 pub record Channels (xs : List ℕ) : Type 0 where
+  -- the waiting rounds have one place; a stale connection and an established channel would need two, and no run comes to it
   pub stale-not-established : getD xs CONNECTION 0 ≡ STALE → getD xs CHANNEL 0 ≡ ESTABLISHED → ⊥
+  -- "a device's channel not yet established has none"
   pub none-before-established : (getD xs CONNECTION 0 ≡ STALE → ⊥) → (getD xs CHANNEL 0 ≡ ESTABLISHED → ⊥) → getD xs WAITING·LENGTH 0 ≡ 0
+  -- "a connection not stale is on its device's channel"
   pub live-on-channel : getD xs CHANNEL 0 ≡ 0 → getD xs CONNECTION 0 ≡ LIVE → ⊥
+  -- items wait on a channel: without one there is none
   pub items-on-channel : getD xs CHANNEL 0 ≡ 0 → getD xs ITEMS·LENGTH 0 ≡ 0
+  -- "where the first item is always one and is there while a connection holds it"
   pub prefix-while-held : getD xs CHANNEL 0 ≡ ASKED → getD xs CONNECTION 0 ≡ LIVE → 0 < getD xs ITEMS·LENGTH 0
 
 -- "a request has such a channel without items"

@@ -1,5 +1,5 @@
--- What the words of a device's record say, as a device of document 01's machine at the cell model. `devices` and `cells` are the table's
--- numbers: what lies past them is not read. Assumes nothing.
+-- Document 01's device, read from the words of a record at the cell model. `devices` and `cells` are the table's numbers: what lies past
+-- them is not read. Assumes nothing.
 use mathlib.Core.Bool.{Bool, true, false}
 use mathlib.Core.List.{List, [], _∷_, _++_}
 use mathlib.Core.Option.{Option, none, some}

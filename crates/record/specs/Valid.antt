@@ -1,4 +1,5 @@
--- Which words of a device's record are in use, which are valid, and which records are a table's. Assumes nothing.
+-- Document 01's "Contents are a table" for the words of one device: which are in use, which are valid, and which records are a table's.
+-- Assumes nothing.
 use mathlib.Core.Path.{_≡_}
 use mathlib.Core.List.{List}
 use Prim.Native.Nat.{ℕ, _+_, _*_, _≤_, _<_}

@@ -21,6 +21,7 @@ use Rattle.words.specs.Place.{cellPlace, changePlace, cellAt, changeAt, Across,
 use Rattle.words.proofs.Places.{lt-or-ge}
 use Rattle.record.specs.Reading.{below, changesAt, sheetAt, givenBy, givenAt, itemOf, itemAt, deviceOf}
 use Rattle.record.proofs.Loops.{applied-across}
+use Rattle.record.proofs.Same.{below-all}
 use Rattle.queues.specs.Parts.{PlacesAre}
 use Rattle.table.specs.Table.{recordAt, reading}
 use Rattle.table.specs.Promise.{Became, Each}
@@ -175,7 +176,7 @@ module _ (xs counts : List ℕ) (devices cells : ℕ) (T : TableReady xs devices
               old = ap (λ (r : List ℕ). getD r TAKEN 0) (same-records d h) ∙ sym (taken-at xs d there)
 
       takens-are : below (getD xs DEVICES 0) new-taken 0 ≡ new-taken
-      takens-are = fun-ext (λ d. ⊎-elim (λ h. rw (lt-ltb d (getD xs DEVICES 0) h) refl) (λ g. rw (le-ltb d (getD xs DEVICES 0) g) (sym (past d g))) (lt-or-ge d (getD xs DEVICES 0)))
+      takens-are = fun-ext (below-all (getD xs DEVICES 0) new-taken 0 past)
         where
           nobody : (d : ℕ) → getD xs DEVICES 0 ≤ d → reading xs .taken d ≡ 0
           nobody d g = unfold reading in (rw (le-ltb d (getD xs DEVICES 0) g) refl)
@@ -184,7 +185,7 @@ module _ (xs counts : List ℕ) (devices cells : ℕ) (T : TableReady xs devices
           past d g = unfold new-taken in (λ i. given (past-none xs counts d g i) (nobody d g i))
 
       devices-are : below (getD xs DEVICES 0) new-device (freshDevice sheet (λ c. Blank) 0) ≡ new-device
-      devices-are = fun-ext (λ d. ⊎-elim (λ h. rw (lt-ltb d (getD xs DEVICES 0) h) refl) (λ g. rw (le-ltb d (getD xs DEVICES 0) g) (sym (past d g))) (lt-or-ge d (getD xs DEVICES 0)))
+      devices-are = fun-ext (below-all (getD xs DEVICES 0) new-device (freshDevice sheet (λ c. Blank) 0) past)
         where
           nobody : (d : ℕ) → getD xs DEVICES 0 ≤ d → reading xs .device d ≡ freshDevice sheet (λ c. Blank) 0
           nobody d g = unfold reading in (rw (le-ltb d (getD xs DEVICES 0) g) refl)

@@ -7,20 +7,20 @@ use lib.Dec.{ltb}
 use lib.ListN.{getD}
 use borrow.Author.Tests.{lt-ltb, le-ltb}
 use Rattle.protocol.specs.declared.Refusal.the-variants.{NoTable, NoDevice}
-use Rattle.protocol.specs.Machine.{Table, Result, Device, Local, Step, fine, tell, put, settle, at, step}
+use Rattle.protocol.specs.Machine.{answerOf, deviceAfter, Table, Result, Device, Local, Step, fine, tell, put, settle, at, step}
 use Rattle.sheet.specs.Sheet.{sheet}
 use Rattle.sheet.specs.Answer.{meaning}
 use Rattle.sheet.specs.declared.Answer.{Answer}
 use Rattle.sheet.specs.declared.Answer.the-variants.{Refused}
 use Rattle.words.specs.Layout.{TAKEN, DEVICES, CELLS}
 use Rattle.record.specs.Reading.{deviceOf}
-use Rattle.record.specs.Did.{Did, Tells, answerOf, deviceAfter}
-use Rattle.device.specs.Named.{stepOf, named}
-use Rattle.device.specs.Look.{questionOf, asked}
+use Rattle.record.specs.Did.{Did, Tells}
+use Rattle.device.specs.Named.{stepOf, tableStep}
+use Rattle.device.specs.Look.{questionOf, questionStep}
 use Rattle.device.specs.declared.look.Question.{Question}
 use Rattle.device.specs.declared.look.Question.the-variants.{Read, Confirmed}
-use Rattle.device.specs.declared.step.Op.{Op}
-use Rattle.device.specs.declared.step.Op.the-variants.{Push, Send, Ask, Drop, Receive, Pull}
+use Rattle.device.specs.declared.step.Operation.{Operation}
+use Rattle.device.specs.declared.step.Operation.the-variants.{Push, Send, Ask, Drop, Receive, Pull}
 use Rattle.table.specs.Table.{recordAt, reading, IsTable}
 use Rattle.table.specs.Promise.{Stepped}
 use Rattle.table.proofs.Part.{Replaced}
@@ -40,9 +40,9 @@ unmoved s xs a T e = record {
 }
 
 -- The machine's step that an operation names is the device's.
-named-at : (d : ℕ) (op : Op) (t : Table sheet) → step sheet (named d op) t ≡ at sheet t d (stepOf (t .cells) d op)
+named-at : (d : ℕ) (operation : Operation) (t : Table sheet) → step sheet (tableStep d operation) t ≡ at sheet t d (stepOf (t .cells) d operation)
 unfolding step
-named-at d (Op.Update cell u) t = refl
+named-at d (Operation.Update cell u) t = refl
 named-at d Push t = refl
 named-at d Send t = refl
 named-at d Ask t = refl
@@ -50,8 +50,8 @@ named-at d Drop t = refl
 named-at d Receive t = refl
 named-at d Pull t = refl
 
-pub named-is : (xs : List ℕ) (d : ℕ) (op : Op) → step sheet (named d op) (reading xs) ≡ at sheet (reading xs) d (stepOf (getD xs CELLS 0) d op)
-named-is xs d op = named-at d op (reading xs) ∙ ap (λ (c : ℕ). at sheet (reading xs) d (stepOf c d op)) cells-is
+pub named-is : (xs : List ℕ) (d : ℕ) (operation : Operation) → step sheet (tableStep d operation) (reading xs) ≡ at sheet (reading xs) d (stepOf (getD xs CELLS 0) d operation)
+named-is xs d operation = named-at d operation (reading xs) ∙ ap (λ (c : ℕ). at sheet (reading xs) d (stepOf c d operation)) cells-is
   where
     cells-is : reading xs .cells ≡ getD xs CELLS 0
     cells-is = unfold reading in refl
@@ -64,11 +64,11 @@ no-device s f xs d e T h = unmoved (step sheet s) xs (Refused NoDevice) T (e ∙
     devices-past = unfold reading in refl
 
 -- What settling does with a device that is there.
-settle-answer : (t : Table sheet) (d : ℕ) (l : Local sheet) → settle sheet t d true l .answer ≡ answerOf l
+settle-answer : (t : Table sheet) (d : ℕ) (l : Local sheet) → settle sheet t d true l .answer ≡ answerOf sheet l
 settle-answer t d (fine y) = refl
 settle-answer t d (tell a) = refl
 
-settle-table : (t : Table sheet) (d : ℕ) (l : Local sheet) → settle sheet t d true l .table ≡ record { devices = t .devices; cells = t .cells; sheet = t .sheet; taken = t .taken; device = put d (deviceAfter (t .device d) l) (t .device) }
+settle-table : (t : Table sheet) (d : ℕ) (l : Local sheet) → settle sheet t d true l .table ≡ record { devices = t .devices; cells = t .cells; sheet = t .sheet; taken = t .taken; device = put d (deviceAfter sheet (t .device d) l) (t .device) }
 settle-table t d (fine y) = refl
 settle-table t d (tell a) = (λ i. record { devices = t .devices; cells = t .cells; sheet = t .sheet; taken = t .taken; device = sym (put-same d (t .device d) (t .device) refl) i })
 
@@ -112,8 +112,8 @@ module _ (s : Step sheet) (f : Device sheet → Local sheet) (xs : List ℕ) (d 
         cells-are : getD xs CELLS 0 ≡ reading xs .cells
         cells-are = unfold reading in refl
 
-        after-is : deviceOf (getD xs DEVICES 0) (getD xs CELLS 0) rs ≡ deviceAfter (reading xs .device d) (f here)
-        after-is = S .after ∙ ap (λ (x : Device sheet). deviceAfter x (f here)) (sym device-is)
+        after-is : deviceOf (getD xs DEVICES 0) (getD xs CELLS 0) rs ≡ deviceAfter sheet (reading xs .device d) (f here)
+        after-is = S .after ∙ ap (λ (x : Device sheet). deviceAfter sheet x (f here)) (sym device-is)
 
     pub lifted : Stepped (step sheet s) xs a ys
     lifted = record {
@@ -131,28 +131,28 @@ module _ (s : Step sheet) (f : Device sheet → Local sheet) (xs : List ℕ) (d 
         answer-is = S .answer ∙ sym (settle-answer (reading xs) d (f here))
 
 -- The same of an operation.
-module _ (xs : List ℕ) (d : ℕ) (op : Op) (T : IsTable xs) where
-  pub no-device-named : getD xs DEVICES 0 ≤ d → Stepped (step sheet (named d op)) xs (Refused NoDevice) xs
-  no-device-named h = no-device (named d op) (stepOf (getD xs CELLS 0) d op) xs d (named-is xs d op) T h
+module _ (xs : List ℕ) (d : ℕ) (operation : Operation) (T : IsTable xs) where
+  pub no-device-named : getD xs DEVICES 0 ≤ d → Stepped (step sheet (tableStep d operation)) xs (Refused NoDevice) xs
+  no-device-named h = no-device (tableStep d operation) (stepOf (getD xs CELLS 0) d operation) xs d (named-is xs d operation) T h
 
-  pub lifted-named : d < getD xs DEVICES 0 → (ys rs : List ℕ) (a : Answer) → Replaced xs ys d rs → Did (getD xs DEVICES 0) (getD xs CELLS 0) (stepOf (getD xs CELLS 0) d op) (recordAt xs d) a rs → Stepped (step sheet (named d op)) xs a ys
-  lifted-named h ys rs a R S = lifted (named d op) (stepOf (getD xs CELLS 0) d op) xs d (named-is xs d op) T h ys rs a R S
+  pub lifted-named : d < getD xs DEVICES 0 → (ys rs : List ℕ) (a : Answer) → Replaced xs ys d rs → Did (getD xs DEVICES 0) (getD xs CELLS 0) (stepOf (getD xs CELLS 0) d operation) (recordAt xs d) a rs → Stepped (step sheet (tableStep d operation)) xs a ys
+  lifted-named h ys rs a R S = lifted (tableStep d operation) (stepOf (getD xs CELLS 0) d operation) xs d (named-is xs d operation) T h ys rs a R S
 
 -- The same of a question.
-asked-at : (d : ℕ) (q : Question) (t : Table sheet) → step sheet (asked d q) t ≡ at sheet t d (questionOf (t .cells) q)
+asked-at : (d : ℕ) (q : Question) (t : Table sheet) → step sheet (questionStep d q) t ≡ at sheet t d (questionOf (t .cells) q)
 unfolding step
 asked-at d (Read c) t = refl
 asked-at d Confirmed t = refl
 
 module _ (xs : List ℕ) (d : ℕ) (q : Question) (T : IsTable xs) where
-  asked-is : step sheet (asked d q) (reading xs) ≡ at sheet (reading xs) d (questionOf (getD xs CELLS 0) q)
+  asked-is : step sheet (questionStep d q) (reading xs) ≡ at sheet (reading xs) d (questionOf (getD xs CELLS 0) q)
   asked-is = asked-at d q (reading xs) ∙ ap (λ (c : ℕ). at sheet (reading xs) d (questionOf c q)) cells-is
     where
       cells-is : reading xs .cells ≡ getD xs CELLS 0
       cells-is = unfold reading in refl
 
-  pub no-device-asked : getD xs DEVICES 0 ≤ d → Stepped (step sheet (asked d q)) xs (Refused NoDevice) xs
-  no-device-asked h = no-device (asked d q) (questionOf (getD xs CELLS 0) q) xs d asked-is T h
+  pub no-device-asked : getD xs DEVICES 0 ≤ d → Stepped (step sheet (questionStep d q)) xs (Refused NoDevice) xs
+  no-device-asked h = no-device (questionStep d q) (questionOf (getD xs CELLS 0) q) xs d asked-is T h
 
-  pub told-asked : d < getD xs DEVICES 0 → (a : Answer) → Tells (getD xs DEVICES 0) (getD xs CELLS 0) (questionOf (getD xs CELLS 0) q) (recordAt xs d) a → Stepped (step sheet (asked d q)) xs a xs
-  told-asked h a t = told (asked d q) (questionOf (getD xs CELLS 0) q) xs d asked-is T h a t
+  pub told-asked : d < getD xs DEVICES 0 → (a : Answer) → Tells (getD xs DEVICES 0) (getD xs CELLS 0) (questionOf (getD xs CELLS 0) q) (recordAt xs d) a → Stepped (step sheet (questionStep d q)) xs a xs
+  told-asked h a t = told (questionStep d q) (questionOf (getD xs CELLS 0) q) xs d asked-is T h a t

@@ -1,6 +1,6 @@
 -- What `start` and opening make of a slice. Assumes nothing.
 use mathlib.Core.Path.{_≡_, refl, sym, ap, _∙_, fun-ext}
-use mathlib.Core.Logic.{_⊎_, ⊎-elim}
+use mathlib.Core.Logic.{⊎-elim}
 use mathlib.Core.List.{List}
 use Prim.Native.Nat.{ℕ, _+_, _*_, _-_, _/_, _%_, _≤_, _<_}
 use native.Mathlib.Omega.{arith}
@@ -19,14 +19,10 @@ use Rattle.words.proofs.Places.{Same, set-kept, set-new, lt-or-ge, cell-local}
 use Rattle.record.specs.Reading.{below, sheetAt, deviceOf}
 use Rattle.record.specs.Valid.{InUse}
 use Rattle.record.specs.Begun.{Begun}
-use Rattle.record.proofs.Same.{places-same, places-valid, places-filled}
+use Rattle.record.proofs.Same.{below-all, places-same, places-valid, places-filled}
 use Rattle.table.specs.Table.{need, recordAt, reading, InTable, ValidTable}
 use Rattle.table.specs.Promise.{Became, Begins, Started}
 use Rattle.table.proofs.Part.{record-same, record-word}
-
--- A reading that is past the cut what it is cut to.
-below-all : {A : Type 0} (n : ℕ) (f : ℕ → A) (past : A) → ((c : ℕ) → n ≤ c → f c ≡ past) → (c : ℕ) → below n f past c ≡ f c
-below-all n f past h c = ⊎-elim (λ l. rw (lt-ltb c n l) refl) (λ g. rw (le-ltb c n g) (sym (h c g))) (lt-or-ge c n)
 
 -- Records begun, the server's sheet stored, and then the header: the table at first that b gives.
 module _ (b : Start sheet) (xs y1 y2 : List ℕ) (blank-past : (c : ℕ) → b .cells ≤ c → b .sheet c ≡ Blank) (none-past : (d : ℕ) → b .devices ≤ d → b .numbers d ≡ 0) (Z : Sizes (b .devices) (b .cells)) (long : need (b .devices) ≤ length xs) (l1 : length y1 ≡ length xs) (l2 : length y2 ≡ length xs) (B : Begins (b .cells) (b .sheet) (b .numbers) xs y1 (b .devices)) (F : Filled cellPlace y1 y2 SHEET (b .cells) (b .sheet)) where

@@ -3,7 +3,7 @@ ghost use Prim.Native.Nat.{_+_, _*_, _≤_, _<_};
 ghost use lib.ListN.{length};
 ghost use Rattle.cells.specs.declared.Cell.the-variants.{Blank};
 ghost use Rattle.protocol.specs.Fits.{Sizes};
-ghost use Rattle.words.specs.Layout.{RECORD, RECORDS};
+ghost use Rattle.words.specs.Layout.{MOST·CELLS, MOST·DEVICES, RECORD, RECORDS};
 ghost use Rattle.words.specs.Place.{Decides};
 ghost use Rattle.table.specs.Promise.{Started, Begins};
 use protocol::Refusal;
@@ -36,7 +36,7 @@ pub fn are_sizes(devices: u64, cells: u64) -> bool
 
 // Begins the records of n devices.
 fn begin_records(t: &mut [u64], n: usize, cells: usize)
-    requires { ⌜ (n ≤ 8) × (cells ≤ 64) × (RECORDS + RECORD * n ≤ length (now t)) ⌝ }
+    requires { ⌜ (n ≤ MOST·DEVICES) × (cells ≤ MOST·CELLS) × (RECORDS + RECORD * n ≤ length (now t)) ⌝ }
     ensures { λ _. ⌜ Begins cells (λ c. Blank) (λ d. 0) (now (t .entry)) (now (t .exit)) n ⌝ }
 {
     let mut d = 0;

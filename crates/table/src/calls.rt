@@ -5,15 +5,15 @@ ghost use Prim.Native.Nat.{_<_};
 ghost use lib.ListN.{getD};
 ghost use Rattle.sheet.specs.Sheet.{sheet};
 ghost use Rattle.words.specs.Layout.{DEVICES};
-ghost use Rattle.device.specs.Named.{named, updateOf};
-ghost use Rattle.device.specs.Look.{asked};
+ghost use Rattle.device.specs.Named.{tableStep, updateOf};
+ghost use Rattle.device.specs.Look.{questionStep};
 ghost use Rattle.table.specs.Promise.{Stepped};
 ghost use Rattle.table.specs.Table.{IsTable};
 use crate::check::is_table;
 use cells::Update;
 use device::look::Question;
 use device::look::look;
-use device::step::Op;
+use device::step::Operation;
 use device::step::on_record;
 use protocol::Refusal;
 use sheet::Answer;
@@ -23,20 +23,20 @@ use words::layout::RECORD;
 use words::layout::RECORDS;
 
 // Any step of device d of a table that has it.
-pub fn on_known(t: &mut [u64], d: u64, op: Op) -> Answer
+pub fn on_known(t: &mut [u64], d: u64, operation: Operation) -> Answer
     requires { ⌜ IsTable (now t) × (d < getD (now t) DEVICES 0) ⌝ }
-    ensures { λ a. ⌜ Stepped (step sheet (named d op)) (now (t .entry)) a (now (t .exit)) ⌝ }
+    ensures { λ a. ⌜ Stepped (step sheet (tableStep d operation)) (now (t .entry)) a (now (t .exit)) ⌝ }
 {
     let devices = t[DEVICES] as usize;
     let cells = t[CELLS] as usize;
     let a = RECORDS + RECORD * (d as usize);
     let e = a + RECORD;
-    on_record(&mut t[a..e], devices, cells, d as usize, op)
+    on_record(&mut t[a..e], devices, cells, d as usize, operation)
 }
 
 // Any step of device d.
-fn on_device(t: &mut [u64], d: u64, op: Op) -> Answer
-    ensures { λ a. ⌜ Stepped (step sheet (named d op)) (now (t .entry)) a (now (t .exit)) ⌝ }
+fn on_device(t: &mut [u64], d: u64, operation: Operation) -> Answer
+    ensures { λ a. ⌜ Stepped (step sheet (tableStep d operation)) (now (t .entry)) a (now (t .exit)) ⌝ }
 {
     if !is_table(t) {
         return Answer::Refused(Refusal::NoTable);
@@ -44,13 +44,13 @@ fn on_device(t: &mut [u64], d: u64, op: Op) -> Answer
     if d >= t[DEVICES] {
         return Answer::Refused(Refusal::NoDevice);
     }
-    on_known(t, d, op)
+    on_known(t, d, operation)
 }
 
 // Any question to device d of a table that has it.
 fn ask_known(t: &[u64], d: u64, q: Question) -> Answer
     requires { ⌜ IsTable (now t) × (d < getD (now t) DEVICES 0) ⌝ }
-    ensures { λ a. ⌜ Stepped (step sheet (asked d q)) (now (t .entry)) a (now (t .entry)) ⌝ }
+    ensures { λ a. ⌜ Stepped (step sheet (questionStep d q)) (now (t .entry)) a (now (t .entry)) ⌝ }
 {
     let devices = t[DEVICES] as usize;
     let cells = t[CELLS] as usize;
@@ -61,7 +61,7 @@ fn ask_known(t: &[u64], d: u64, q: Question) -> Answer
 
 // Any question to device d; the table stays as it is.
 fn ask_device(t: &[u64], d: u64, q: Question) -> Answer
-    ensures { λ a. ⌜ Stepped (step sheet (asked d q)) (now (t .entry)) a (now (t .entry)) ⌝ }
+    ensures { λ a. ⌜ Stepped (step sheet (questionStep d q)) (now (t .entry)) a (now (t .entry)) ⌝ }
 {
     if !is_table(t) {
         return Answer::Refused(Refusal::NoTable);
@@ -75,7 +75,7 @@ fn ask_device(t: &[u64], d: u64, q: Question) -> Answer
 pub fn update(t: &mut [u64], d: u64, cell: u64, u: Update) -> Answer
     ensures { λ a. ⌜ Stepped (step sheet (machine.update d (updateOf cell u))) (now (t .entry)) a (now (t .exit)) ⌝ }
 {
-    on_device(t, d, Op::Update(cell, u))
+    on_device(t, d, Operation::Update(cell, u))
 }
 
 pub fn read(t: &[u64], d: u64, cell: u64) -> Answer
@@ -87,13 +87,13 @@ pub fn read(t: &[u64], d: u64, cell: u64) -> Answer
 pub fn push(t: &mut [u64], d: u64) -> Answer
     ensures { λ a. ⌜ Stepped (step sheet (machine.push d)) (now (t .entry)) a (now (t .exit)) ⌝ }
 {
-    on_device(t, d, Op::Push)
+    on_device(t, d, Operation::Push)
 }
 
 pub fn send(t: &mut [u64], d: u64) -> Answer
     ensures { λ a. ⌜ Stepped (step sheet (machine.send d)) (now (t .entry)) a (now (t .exit)) ⌝ }
 {
-    on_device(t, d, Op::Send)
+    on_device(t, d, Operation::Send)
 }
 
 pub fn confirmed(t: &[u64], d: u64) -> Answer
@@ -105,24 +105,24 @@ pub fn confirmed(t: &[u64], d: u64) -> Answer
 pub fn ask(t: &mut [u64], d: u64) -> Answer
     ensures { λ a. ⌜ Stepped (step sheet (machine.ask d)) (now (t .entry)) a (now (t .exit)) ⌝ }
 {
-    on_device(t, d, Op::Ask)
+    on_device(t, d, Operation::Ask)
 }
 
 // Document 01's drop.
 pub fn give_up(t: &mut [u64], d: u64) -> Answer
     ensures { λ a. ⌜ Stepped (step sheet (machine.drop·channel d)) (now (t .entry)) a (now (t .exit)) ⌝ }
 {
-    on_device(t, d, Op::Drop)
+    on_device(t, d, Operation::Drop)
 }
 
 pub fn receive(t: &mut [u64], d: u64) -> Answer
     ensures { λ a. ⌜ Stepped (step sheet (machine.receive d)) (now (t .entry)) a (now (t .exit)) ⌝ }
 {
-    on_device(t, d, Op::Receive)
+    on_device(t, d, Operation::Receive)
 }
 
 pub fn pull(t: &mut [u64], d: u64) -> Answer
     ensures { λ a. ⌜ Stepped (step sheet (machine.pull d)) (now (t .entry)) a (now (t .exit)) ⌝ }
 {
-    on_device(t, d, Op::Pull)
+    on_device(t, d, Operation::Pull)
 }

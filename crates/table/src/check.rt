@@ -1,7 +1,7 @@
 // Whether lent contents are a table.
 ghost use Prim.Native.Nat.{ℕ, _+_, _*_, _≤_, _<_};
 ghost use lib.ListN.{length};
-ghost use Rattle.words.specs.Layout.{RECORD, RECORDS};
+ghost use Rattle.words.specs.Layout.{MOST·CELLS, MOST·DEVICES, RECORD, RECORDS};
 ghost use Rattle.words.specs.Place.{Decides};
 ghost use Rattle.record.specs.Valid.{IsRecord};
 ghost use Rattle.table.specs.Table.{recordAt, IsTable};
@@ -17,7 +17,7 @@ use words::layout::SHEET;
 
 // Whether the first n records are a table's of so many devices and cells.
 fn are_records(t: &[u64], n: usize, devices: usize, cells: usize) -> bool
-    requires { ⌜ (n ≤ 8) × (devices ≤ 8) × (cells ≤ 64) × (RECORDS + RECORD * n ≤ length (now t)) ⌝ }
+    requires { ⌜ (n ≤ MOST·DEVICES) × (devices ≤ MOST·DEVICES) × (cells ≤ MOST·CELLS) × (RECORDS + RECORD * n ≤ length (now t)) ⌝ }
     ensures { λ b. ⌜ Decides b ((d : ℕ) → d < n → IsRecord devices cells (recordAt (now (t .entry)) d)) ⌝ }
 {
     let mut d = 0;

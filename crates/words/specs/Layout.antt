@@ -1,4 +1,4 @@
--- Where each thing lies in the lent table, in words: the names of src/layout.rt with the same values, `·` for `_`.
+-- Document 01: "That need is a formula in docs/". Where each thing lies: the names of src/layout.rt with the same values, `·` for `_`.
 -- Assumes nothing.
 use Prim.Native.Nat.{ℕ}
 

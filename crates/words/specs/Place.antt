@@ -1,4 +1,4 @@
--- How a cell lies in a sheet and a change in a joined change, and what it means to store one. Assumes nothing.
+-- Document 01's cell and change as they lie in the lent table, and what it means to store one. Assumes nothing.
 use mathlib.Core.Path.{_≡_}
 use mathlib.Core.Bool.{Bool, true, false}
 use mathlib.Core.List.{List}

@@ -12,6 +12,7 @@ use cells::Change;
 use cells::stored::cell_words_ok;
 use cells::stored::change_words_ok;
 
+// Whether the n cells from `at` on have valid words.
 pub fn are_cells(t: &[u64], at: usize, n: usize) -> bool
     requires { ⌜ at + CELL * n ≤ length (now t) ⌝ }
     ensures { λ r. ⌜ Decides r (Valid cellPlace (now (t .entry)) at n) ⌝ }
@@ -27,6 +28,7 @@ pub fn are_cells(t: &[u64], at: usize, n: usize) -> bool
     true
 }
 
+// Whether the n changes from `at` on have valid words.
 pub fn are_changes(t: &[u64], at: usize, n: usize) -> bool
     requires { ⌜ at + CHANGE * n ≤ length (now t) ⌝ }
     ensures { λ r. ⌜ Decides r (Valid changePlace (now (t .entry)) at n) ⌝ }

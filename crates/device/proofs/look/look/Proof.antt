@@ -1,6 +1,6 @@
 -- `device::look::look` meets its contract: each arm is its question.
 -- Assumes nothing.
-use Rattle.device.proofs.Questions.{tells-as}
+use Rattle.device.proofs.Operations.{tells-as}
 use borrow.Author.Needs.{needs}
 use Rattle.device.proofs.look.look.Statement.{statement}
 use Rattle.device.proofs.look.look.Tie as tie

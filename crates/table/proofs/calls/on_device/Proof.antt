@@ -27,7 +27,7 @@ same-length-2 : tie.Need-same-length-2
 same-length-2 c = search needs
 
 returns-2 : tie.Need-returns-2
-returns-2 c = no-device-named _ _ (c .before .before .before .before .before .before .args .op) (c .before .before .before .is-table .ensures .sure (not-false _ (c .before .before .if1 .left))) (c .if2 .taken)
+returns-2 c = no-device-named _ _ (c .before .before .before .before .before .before .args .operation) (c .before .before .before .is-table .ensures .sure (not-false _ (c .before .before .if1 .left))) (c .if2 .taken)
 
 on-known-requires : tie.Need-on-known-requires
 on-known-requires c κs = ((c .before .before .before .before .is-table .ensures .sure (not-false _ (c .before .before .before .if1 .left))), c .before .if2 .left)

@@ -50,7 +50,7 @@ returns c =
     let z = ok .sizes in
     let h = c .before .before .before .before .before .before .before .pre .1 in
     let size = w .kept .0 ∙ part-length _ (c .before .before .before .before .before .before .before .args .d) (omega arith) in
-    lifted-named _ (c .before .before .before .before .before .before .before .args .d) (c .before .before .before .before .before .before .before .args .op) T h _ _ _ (replaced _ _ (c .before .before .before .before .before .before .before .args .d) (omega arith) size) (rw (part-is _ _) at (w .ensures))
+    lifted-named _ (c .before .before .before .before .before .before .before .args .d) (c .before .before .before .before .before .before .before .args .operation) T h _ _ _ (replaced _ _ (c .before .before .before .before .before .before .before .args .d) (omega arith) size) (rw (part-is _ _) at (w .ensures))
 
 pub on-known-spec : {M : Type 1} → statement M
 on-known-spec =

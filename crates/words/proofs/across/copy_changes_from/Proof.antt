@@ -1,9 +1,8 @@
 -- `words::across::copy_changes_from` meets its contract: each turn stores one place more.
 -- Assumes nothing.
-use mathlib.Core.Path.{_≡_, refl, _∙_}
+use mathlib.Core.Path.{_≡_, refl, _∙_, ap}
 use Prim.Native.Nat.{_≤_, _-_, _+_, _*_}
 use lib.ListN.{length}
-use mathlib.Core.Path.{ap}
 use Rattle.words.specs.Layout.{CHANGE}
 use Rattle.words.specs.Place.{changeAt, changePlace, Filled}
 use Rattle.words.proofs.Places.{change-local, change-finite, filled-none, filled-more}

@@ -2,8 +2,7 @@
 -- Assumes nothing.
 use mathlib.Core.Path.{_≡_, refl, _∙_}
 use Prim.Native.Nat.{_≤_, _-_, _+_}
-use lib.ListN.{length}
-use lib.ListN.{getD, length-set}
+use lib.ListN.{length, getD, length-set}
 use Rattle.words.specs.Place.{Numbers}
 use Rattle.words.proofs.Places.{numbers-none, numbers-more}
 use native.Mathlib.Omega.{arith}

@@ -1,10 +1,9 @@
 -- `words::across::join_changes_from` meets its contract: the place of a turn is as it was at the start.
 -- Assumes nothing.
 use borrow.Author.Needs.{needs}
-use mathlib.Core.Path.{_≡_, refl, _∙_}
+use mathlib.Core.Path.{_≡_, refl, _∙_, ap₂}
 use Prim.Native.Nat.{_≤_, _-_, _+_, _*_}
 use lib.ListN.{length}
-use mathlib.Core.Path.{ap₂}
 use Rattle.words.specs.Layout.{CHANGE}
 use Rattle.words.specs.Place.{changeAt, changePlace, Filled}
 use Rattle.words.proofs.Places.{change-local, filled-none, filled-more}

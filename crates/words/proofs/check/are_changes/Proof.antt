@@ -1,10 +1,9 @@
 -- `words::check::are_changes` meets its contract: it stops at the first place that is not valid.
 -- Assumes nothing.
 use borrow.Author.Needs.{needs}
-use mathlib.Core.Path.{_≡_, _∙_}
+use mathlib.Core.Path.{_≡_, _∙_, sym}
 use Prim.Native.Nat.{_≤_, _-_}
 use native.Mathlib.Omega.{arith}
-use mathlib.Core.Path.{sym}
 use borrow.Author.Tests.{not-true, not-false}
 use Rattle.words.specs.Place.{changeOk, changePlace, Valid}
 use Rattle.words.proofs.Places.{below-suc}

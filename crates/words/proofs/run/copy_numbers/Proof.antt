@@ -3,10 +3,9 @@
 use mathlib.Core.Path.{_≡_, refl, _∙_}
 use Prim.Native.Nat.{_≤_, _-_, _+_}
 use native.Mathlib.Omega.{arith}
-use lib.ListN.{length, getD}
+use lib.ListN.{length, getD, length-set}
 use Rattle.words.specs.Place.{Numbers}
 use Rattle.words.proofs.Places.{numbers-none, numbers-more}
-use lib.ListN.{length-set}
 use Rattle.words.proofs.run.copy_numbers.Statement.{statement}
 use Rattle.words.proofs.run.copy_numbers.Tie as tie
 
