@@ -2,15 +2,14 @@
 use mathlib.Core.List.{List}
 use Prim.Native.Nat.{ℕ, _≤_}
 use lib.ListN.{getD}
-use Rattle.protocol.specs.declared.Refusal.the-variants.{NoTable, OutsideAllowed, NoStep}
-use Rattle.protocol.specs.Machine.{step}
+use Rattle.protocol.specs.declared.Refusal.the-variants.{NoTable, OutsideAllowed}
 use Rattle.protocol.specs.Fits.{Sizes}
-use Rattle.sheet.specs.Sheet.{sheet}
 use Rattle.sheet.specs.declared.Answer.{Answer}
 use Rattle.words.specs.Layout.{DEVICES}
-use Rattle.table.specs.Promise.{RefusedWith, Stepped, Started}
+use Rattle.table.specs.Promise.{RefusedWith, Started}
+use Rattle.table.specs.Asked.{Asked, DoesWith}
 use Rattle.steps.specs.Parse.{parseLine}
-use Rattle.answering.specs.Program.{Asked, no·step, start, machine·step, asked}
+use Rattle.answering.specs.Program.{asked}
 
 -- "above 3 devices or 16 cells" is not small
 pub record Small (devices cells : ℕ) : Type 0 where
@@ -25,9 +24,7 @@ pub record StartedSmall (devices cells : ℕ) (xs : List ℕ) (a : Answer) (ys :
 
 -- What was asked is done to the words xs: the answer is a, and they become ys.
 abbrev pub Does : Asked → (xs : List ℕ) → Answer → (ys : List ℕ) → Type 0
-Does no·step xs a ys = RefusedWith NoStep xs a ys
-Does (start devices cells) xs a ys = StartedSmall devices cells xs a ys
-Does (machine·step m) xs a ys = Stepped (step sheet m) xs a ys
+Does = DoesWith StartedSmall
 
 -- The answer to a line. Words that no start has filled say 0 devices.
 abbrev pub Answered : (line xs : List ℕ) → Answer → (ys : List ℕ) → Type 0

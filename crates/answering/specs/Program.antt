@@ -12,17 +12,12 @@ use Rattle.protocol.specs.Machine as machine
 use Rattle.sheet.specs.Sheet.{sheet, started}
 use Rattle.sheet.specs.Answer.{written}
 use Rattle.device.specs.Named.{updateOf}
+use Rattle.table.specs.Asked.{Asked, no·step, start, machine·step}
 use Rattle.lines.specs.Lines.{linesOf}
 use Rattle.steps.specs.Parse.{parseLine}
 use Rattle.answers.specs.Answer.{answerLine}
 use Rattle.steps.specs.declared.parse.Counts.{Counts}
 use Rattle.steps.specs.declared.parse.Step.{Step}
-
--- What a line asks for: a start, or a step of the machine; or it is no step.
-pub data Asked : Type 0 where
-  no·step : Asked
-  start : (devices cells : ℕ) → Asked
-  machine·step : machine.Step sheet → Asked
 
 -- "`batch` and `cut` carry one count per device"
 abbrev pub countList : Counts → List ℕ

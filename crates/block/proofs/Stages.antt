@@ -16,7 +16,7 @@ use Rattle.sheet.specs.declared.Answer.the-variants.{Done}
 use Rattle.words.specs.Layout.{DEVICES}
 use Rattle.table.specs.Table.{reading, IsTable}
 use Rattle.table.specs.Promise.{Became, Stepped}
-use Rattle.block.specs.Block.{updatesIn, walkAt, Turned}
+use Rattle.block.specs.Block.{updatesIn, walkAt, WalkTurned}
 use Rattle.block.specs.declared.Entry.{Entry}
 use Rattle.block.specs.declared.Walk.{Walk}
 use Rattle.block.proofs.Joins.{firstBad, opened, placed}
@@ -37,10 +37,10 @@ pub data Stage (t₀ : List ℕ) (d : ℕ) (us : List Entry) : Type 0 where
   over : (a : Answer) (i : ℕ) (j : Bool) (t : List ℕ) → length t ≡ length t₀ → Stepped (step sheet (machine.block d (updatesIn us))) t₀ a t → Stage t₀ d us
 
 module _ {t₀ : List ℕ} {d : ℕ} {us : List Entry} where
-  abbrev pub tab : Stage t₀ d us → List ℕ
-  tab (looks i l T h q) = t₀
-  tab (joins t b i l T h B g r q) = t
-  tab (over a i j t e S) = t
+  abbrev pub tableAt : Stage t₀ d us → List ℕ
+  tableAt (looks i l T h q) = t₀
+  tableAt (joins t b i l T h B g r q) = t
+  tableAt (over a i j t e S) = t
 
   abbrev pub at-walk : Stage t₀ d us → Walk
   at-walk (looks i l T h q) = walkAt true i false Done
@@ -52,7 +52,7 @@ module _ {t₀ : List ℕ} {d : ℕ} {us : List Entry} where
   μ (joins t b i l T h B g r q) = length us - i
   μ (over a i j t e S) = 0
 
-  pub same-length : (s : Stage t₀ d us) → length (tab s) ≡ length t₀
+  pub same-length : (s : Stage t₀ d us) → length (tableAt s) ≡ length t₀
   same-length (looks i l T h q) = refl
   same-length (joins t b i l T h B g r q) = B .size
   same-length (over a i j t e S) = e
@@ -61,12 +61,12 @@ module _ {t₀ : List ℕ} {d : ℕ} {us : List Entry} where
 pub record Next (t₀ : List ℕ) (d : ℕ) (us : List Entry) (s : Stage t₀ d us) (t : List ℕ) (w : Walk) : Type 0 where
   pub to : Stage t₀ d us
   pub less : μ to < μ s
-  pub tab-is : t ≡ tab to
+  pub table-is : t ≡ tableAt to
   pub walk-is : w ≡ at-walk to
 
 -- Where the walk is on: what a turn requires, and the stage after it.
 pub record Goes (t₀ : List ℕ) (d : ℕ) (us : List Entry) (s : Stage t₀ d us) : Type 0 where
-  pub table : IsTable (tab s)
-  pub there : d < getD (tab s) DEVICES 0
+  pub table : IsTable (tableAt s)
+  pub there : d < getD (tableAt s) DEVICES 0
   pub within : at-walk s .at < length us
-  pub after : (r : Walk) (zs : List ℕ) → Turned (tab s) d (length us) (getD us (at-walk s .at) pastEnd) (at-walk s) r zs → Next t₀ d us s zs r
+  pub after : (r : Walk) (zs : List ℕ) → WalkTurned (tableAt s) d (length us) (getD us (at-walk s .at) pastEnd) (at-walk s) r zs → Next t₀ d us s zs r

@@ -20,8 +20,7 @@ use Rattle.sheet.proofs.OneAnswer.{meaning-one, done-refused}
 use Rattle.sheet.proofs.Theorem.{refused-exactly-when, refusal-changes-nothing}
 use Rattle.words.proofs.Places.{lt-or-ge}
 use Rattle.table.specs.Table.{reading, IsTable}
-use Rattle.table.specs.Promise.{Became}
-use Rattle.table.proofs.Once.{became-once, either-way}
+use Rattle.table.proofs.Once.{became-same, either-way}
 use Rattle.block.specs.Block.{updateIn, updatesIn, refusalOf}
 use Rattle.block.specs.Claims.{FirstBad, Block·answers, Block·all·or·none, Empty·block, Block·in·order}
 use Rattle.block.specs.declared.Entry.{Entry}
@@ -98,13 +97,9 @@ block-answers d es xs ys a S =
       );
     }
 
--- Words that became what they said are as they were.
-stayed : (xs ys : List ℕ) (t : Table sheet) → IsTable xs → Became xs ys t → t ≡ reading xs → ys ≡ xs
-stayed xs ys t T B e = became-once xs ys xs t B record { says = sym e; valid = T .valid; kept = λ _ _. refl; size = refl }
-
 pub block-all-or-none : Block·all·or·none
 block-all-or-none d es xs ys a S n =
-    either-way (IsTable xs) a a ys xs (λ T. (refl, stayed xs ys _ T (S .after T) (unmoved T))) (λ m. (refl, S .no-table m .untouched)) .1
+    either-way (IsTable xs) a a ys xs (λ T. (refl, became-same xs ys _ T (S .after T) (unmoved T))) (λ m. (refl, S .no-table m .untouched)) .1
   where
     unmoved : IsTable xs → step sheet (machine.block d (updatesIn es)) (reading xs) .table ≡ reading xs
     unmoved T = ⊎-elim
@@ -117,7 +112,7 @@ block-all-or-none d es xs ys a S n =
 
 pub empty-block : Empty·block
 empty-block d xs ys a S =
-    either-way (IsTable xs) a a ys xs (λ T. (refl, stayed xs ys _ T (S .after T) unmoved)) (λ m. (refl, S .no-table m .untouched)) .1
+    either-way (IsTable xs) a a ys xs (λ T. (refl, became-same xs ys _ T (S .after T) unmoved)) (λ m. (refl, S .no-table m .untouched)) .1
   where
     unmoved : step sheet (machine.block d []) (reading xs) .table ≡ reading xs
     unmoved = ⊎-elim

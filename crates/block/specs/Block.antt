@@ -1,4 +1,5 @@
--- A pasted block of updates, and the walk over it: first every update is looked at, then each is joined. Assumes nothing.
+-- "joins a pasted block of updates in one call, all or none, in order": the walk over it, which first looks at every update and then joins each.
+-- Assumes nothing.
 use mathlib.Core.Path.{_≡_}
 use mathlib.Core.Bool.{Bool, true, false}
 use mathlib.Core.List.{List, [], _∷_}
@@ -39,10 +40,10 @@ abbrev pub walkAt : Bool → ℕ → Bool → Answer → Walk
 walkAt on at joining answer = record { on = on; at = at; joining = joining; answer = answer }
 
 -- The walk begins: "1 first, then 3".
-pub data Begins (xs : List ℕ) (d n : ℕ) (r : Walk) : Type 0 where
-  no-table : (IsTable xs → ⊥) → r ≡ walkAt false 0 false (Refused NoTable) → Begins xs d n r
-  no-device : IsTable xs → getD xs DEVICES 0 ≤ d → r ≡ walkAt false 0 false (Refused NoDevice) → Begins xs d n r
-  looking : IsTable xs → d < getD xs DEVICES 0 → r ≡ walkAt (ltb 0 n) 0 false Done → Begins xs d n r
+pub data WalkBegins (xs : List ℕ) (d n : ℕ) (r : Walk) : Type 0 where
+  no-table : (IsTable xs → ⊥) → r ≡ walkAt false 0 false (Refused NoTable) → WalkBegins xs d n r
+  no-device : IsTable xs → getD xs DEVICES 0 ≤ d → r ≡ walkAt false 0 false (Refused NoDevice) → WalkBegins xs d n r
+  looking : IsTable xs → d < getD xs DEVICES 0 → r ≡ walkAt (ltb 0 n) 0 false Done → WalkBegins xs d n r
 
 -- A look at the update in place i of n: "In a block the first bad update counts", and after the last good one they are joined, from the first on.
 abbrev pub lookedAt : Option Refusal → (n i : ℕ) → Walk
@@ -50,6 +51,6 @@ lookedAt (some r) n i = walkAt false i false (RefusedAt r i)
 lookedAt none n i = choose (ltb (i + 1) n) (walkAt true (i + 1) false Done) (walkAt true 0 true Done)
 
 -- A turn of the walk at the update e, from the words xs to the words ys.
-pub record Turned (xs : List ℕ) (d n : ℕ) (e : Entry) (w r : Walk) (ys : List ℕ) : Type 0 where
+pub record WalkTurned (xs : List ℕ) (d n : ℕ) (e : Entry) (w r : Walk) (ys : List ℕ) : Type 0 where
   pub looks : w .joining ≡ false → (r ≡ lookedAt (refusalOf (getD xs CELLS 0) e) n (w .at)) × (ys ≡ xs)
   pub joins : w .joining ≡ true → (r ≡ walkAt (ltb (w .at + 1) n) (w .at + 1) true (r .answer)) × Stepped (step sheet (machine.update d (updateIn e))) xs (r .answer) ys

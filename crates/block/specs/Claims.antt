@@ -1,4 +1,5 @@
--- What the promise of a block comes to: which answer, and when; what it leaves. Assumes nothing.
+-- "all or none, in order. An empty block changes nothing"; "In a block the first bad update counts": what the promise of a block comes to.
+-- Assumes nothing.
 use mathlib.Core.Path.{_≡_}
 use mathlib.Core.Logic.{_↔_}
 use mathlib.Core.List.{List, [], _∷_, map}

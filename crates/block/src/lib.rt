@@ -9,7 +9,7 @@ ghost use Rattle.sheet.specs.Sheet.{sheet};
 ghost use Rattle.words.specs.Layout.{DEVICES};
 ghost use Rattle.table.specs.Table.{IsTable};
 ghost use Rattle.table.specs.Promise.{Stepped};
-ghost use Rattle.block.specs.Block.{updatesIn, refusalOf, lookedAt, Begins, Turned};
+ghost use Rattle.block.specs.Block.{updatesIn, refusalOf, lookedAt, WalkBegins, WalkTurned};
 use cells::Update;
 use cells::stored::is_finite_update;
 use device::step::Operation;
@@ -36,7 +36,7 @@ struct Walk {
 
 // The walk's start. It changes nothing: the table comes as a `&mut` because the walk lends it so to `turn` too.
 fn begin(t: &mut [u64], d: u64, n: usize) -> Walk
-    ensures { λ r. ⌜ Begins (now (t .entry)) d n r × (now (t .exit) ≡ now (t .entry)) ⌝ }
+    ensures { λ r. ⌜ WalkBegins (now (t .entry)) d n r × (now (t .exit) ≡ now (t .entry)) ⌝ }
 {
     if !is_table(t) {
         return Walk {
@@ -103,7 +103,7 @@ fn look(cells: u64, n: usize, at: usize, e: Entry) -> Walk
 // One turn: the update e is looked at, or joined.
 fn turn(t: &mut [u64], d: u64, n: usize, e: Entry, w: Walk) -> Walk
     requires { ⌜ IsTable (now t) × (d < getD (now t) DEVICES 0) × (w .at < n) ⌝ }
-    ensures { λ r. ⌜ Turned (now (t .entry)) d n e w r (now (t .exit)) ⌝ }
+    ensures { λ r. ⌜ WalkTurned (now (t .entry)) d n e w r (now (t .exit)) ⌝ }
 {
     let at = w.at;
     if !w.joining {
@@ -119,6 +119,7 @@ fn turn(t: &mut [u64], d: u64, n: usize, e: Entry, w: Walk) -> Walk
     }
 }
 
+// The answer of a walk that is over.
 fn told(w: Walk) -> Answer
     ensures { λ a. ⌜ a ≡ w .answer ⌝ }
 {

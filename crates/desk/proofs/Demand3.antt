@@ -22,15 +22,15 @@ use Rattle.sheet.proofs.Theorem as Sheet
 use Rattle.words.proofs.Places.{lt-or-ge}
 use Rattle.table.specs.Promise.{Stepped}
 use Rattle.table.specs.Table.{IsTable, reading}
-use Rattle.table.proofs.Once.{became-once}
+use Rattle.table.proofs.Once.{became-same}
 use Rattle.image.specs.Promise.{Written, imageOfTable}
 use Rattle.desk.specs.Calls.{Call, Called, Made, Calls, Renews, anew, start, update, block, read, confirmed, push, send, ask, give·up, receive, pull, accept, serverdrop, batch, crash, cut, write·image, open·image}
-use Rattle.desk.specs.Demand3.{stepOf, stepsOf, historyOf, readBy, refusalOf, Next, reconnect, Reached, Demand·3·over·calls, Each·call}
+use Rattle.desk.specs.Demand3.{stepOfCall, stepsOf, historyOf, readBy, refusalNumber, Next, reconnect, Reached, Demand·3·over·calls, Each·call}
 use Rattle.desk.proofs.Never1.{step-never-1, length-never-1, short-never-1}
 use Rattle.desk.proofs.Reaches.{start-stays, opening-stays, Allowed·start, At, is-table, run-append, called-steps, begun-at}
 
 -- An answer with a refusal's number is a refusal of the machine, with a position or without.
-refusal-is : (a : Answer) → 0 < refusalOf a → (r : Refusal) × ((meaning a ≡ machine.refused r) ⊎ ((k : ℕ) × (meaning a ≡ machine.refusedAt r k)))
+refusal-is : (a : Answer) → 0 < refusalNumber a → (r : Refusal) × ((meaning a ≡ machine.refused r) ⊎ ((k : ℕ) × (meaning a ≡ machine.refusedAt r k)))
 refusal-is Done h = absurd (omega arith)
 refusal-is (Value c) h = absurd (omega arith)
 refusal-is Yes h = absurd (omega arith)
@@ -43,27 +43,27 @@ refusal-is (RefusedAt r k) h = (r, inr (k, refl))
 -- The next call on words that are a table.
 module _ (xs : List ℕ) (T : IsTable xs) (a : Answer) (ys : List ℕ) where
   -- a refused step leaves what the words say, and so every word
-  step-stays : (s : Step sheet) → Stepped (step sheet s) xs a ys → 0 < refusalOf a → ys ≡ xs
+  step-stays : (s : Step sheet) → Stepped (step sheet s) xs a ys → 0 < refusalNumber a → ys ≡ xs
   step-stays s S h =
       let p = refusal-is a h in
       let N = Sheet.refusal-changes-nothing s (reading xs) (p .0) in
       let same = ⊎-elim (λ e. N .0 (sym (S .answer T) ∙ e)) (λ q. N .1 (q .0) (sym (S .answer T) ∙ q .1)) (p .1) in
-      became-once xs ys xs _ (S .after T) record { says = sym same; valid = T .valid; kept = λ _ _. refl; size = refl }
+      became-same xs ys _ T (S .after T) same
 
-  writing : (buffer buffer′ : List ℕ) → Written xs buffer a buffer′ → refusalOf a ≡ 1 → ⊥
+  writing : (buffer buffer′ : List ℕ) → Written xs buffer a buffer′ → refusalNumber a ≡ 1 → ⊥
   writing buffer buffer′ W =
       let S = W .stores T in
       ⊎-elim (λ l. short-never-1 a (S .short l .number)) (λ g. length-never-1 a _ (S .answer g)) (lt-or-ge (length buffer) (length (imageOfTable (reading xs))))
 
-  buffer-stays : (buffer buffer′ : List ℕ) → Written xs buffer a buffer′ → 0 < refusalOf a → buffer′ ≡ buffer
+  buffer-stays : (buffer buffer′ : List ℕ) → Written xs buffer a buffer′ → 0 < refusalNumber a → buffer′ ≡ buffer
   buffer-stays buffer buffer′ W h =
       let S = W .stores T in
-      ⊎-elim (λ l. S .short l .untouched) (λ g. let z = ap refusalOf (meaning-one a (Length _) (S .answer g)) in absurd (omega arith)) (lt-or-ge (length buffer) (length (imageOfTable (reading xs))))
+      ⊎-elim (λ l. S .short l .untouched) (λ g. let z = ap refusalNumber (meaning-one a (Length _) (S .answer g)) in absurd (omega arith)) (lt-or-ge (length buffer) (length (imageOfTable (reading xs))))
 
-  not-done : 0 < refusalOf a → a ≡ Done → ⊥
-  not-done h e = let z = ap refusalOf e in omega arith
+  not-done : 0 < refusalNumber a → a ≡ Done → ⊥
+  not-done h e = let z = ap refusalNumber e in omega arith
 
-  by-step : {c : Call} (s : Step sheet) → stepOf c ≡ s ∷ [] → Stepped (step sheet s) xs a ys → Next (reading xs) c xs a ys
+  by-step : {c : Call} (s : Step sheet) → stepOfCall c ≡ s ∷ [] → Stepped (step sheet s) xs a ys → Next (reading xs) c xs a ys
   by-step {c} s e S =
       record {
         answers = subst (Every (λ s. meaning a ≡ step sheet s (reading xs) .answer)) (sym e) (S .answer T, tt);
@@ -71,7 +71,7 @@ module _ (xs : List ℕ) (T : IsTable xs) (a : Answer) (ys : List ℕ) where
         untouched = step-stays s S;
       }
 
-  by-look : {c : Call} (s : Step sheet) → stepOf c ≡ s ∷ [] → Stepped (step sheet s) xs a xs → ys ≡ xs → Next (reading xs) c xs a ys
+  by-look : {c : Call} (s : Step sheet) → stepOfCall c ≡ s ∷ [] → Stepped (step sheet s) xs a xs → ys ≡ xs → Next (reading xs) c xs a ys
   by-look {c} s e S q =
       record {
         answers = subst (Every (λ s. meaning a ≡ step sheet s (reading xs) .answer)) (sym e) (S .answer T, tt);
@@ -102,15 +102,15 @@ module _ (xs : List ℕ) (T : IsTable xs) (a : Answer) (ys : List ℕ) where
 -- The steps of calls, by the calls alone; of more calls; and calls that make no table anew.
 abbrev stepsOfCalls : List Call → List (Step sheet)
 stepsOfCalls [] = []
-stepsOfCalls (c ∷ cs) = stepOf c ++ stepsOfCalls cs
+stepsOfCalls (c ∷ cs) = stepOfCall c ++ stepsOfCalls cs
 
 by-calls : (ms : List Made) → stepsOf ms ≡ stepsOfCalls (map (λ m. m .call) ms)
 by-calls [] = refl
-by-calls (m ∷ ms) = ap (λ (l : List (Step sheet)). stepOf (m .call) ++ l) (by-calls ms)
+by-calls (m ∷ ms) = ap (λ (l : List (Step sheet)). stepOfCall (m .call) ++ l) (by-calls ms)
 
 steps-append : (ms more : List Made) → stepsOf (ms ++ more) ≡ stepsOf ms ++ stepsOf more
 steps-append [] more = refl
-steps-append (m ∷ ms) more = ap (λ (l : List (Step sheet)). stepOf (m .call) ++ l) (steps-append ms more) ∙ sym (append-assoc (stepOf (m .call)) (stepsOf ms) (stepsOf more))
+steps-append (m ∷ ms) more = ap (λ (l : List (Step sheet)). stepOfCall (m .call) ++ l) (steps-append ms more) ∙ sym (append-assoc (stepOfCall (m .call)) (stepsOf ms) (stepsOf more))
 
 none-anew : (ms : List Made) → Every (λ c. anew c ≡ false) (map (λ m. m .call) ms) → Every (λ m. Renews m → ⊥) ms
 none-anew [] h = tt

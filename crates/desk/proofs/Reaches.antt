@@ -16,6 +16,7 @@ use Rattle.sheet.specs.declared.Answer.{Answer}
 use Rattle.sheet.specs.declared.Answer.the-variants.{Done}
 use Rattle.sheet.proofs.OneAnswer.{meaning-one, done-refused}
 use Rattle.sheet.proofs.Theorem.{reached-fits}
+use Rattle.words.specs.Layout.{MOST·PUSHES}
 use Rattle.words.proofs.Places.{lt-or-ge}
 use Rattle.table.specs.Promise.{Stepped, Started}
 use Rattle.table.specs.Table.{IsTable, ValidTable, need, reading}
@@ -24,12 +25,12 @@ use Rattle.coding.specs.Image.{Allowed, NumberAllowed, imageOf}
 use Rattle.image.specs.Promise.{Makes, Opened}
 use Rattle.image.proofs.Theorems.{opening-answers}
 use Rattle.desk.specs.Calls.{Call, Called, Made, Calls, Renews, Begun, at-start, at-opening, start, update, block, read, confirmed, push, send, ask, give·up, receive, pull, accept, serverdrop, batch, crash, cut, write·image, open·image}
-use Rattle.desk.specs.Demand3.{stepOf, stepsOf}
+use Rattle.desk.specs.Demand3.{stepOfCall, stepsOf}
 
 -- What a table may begin with.
 pub record Allowed·start (b : Start sheet) : Type 0 where
   pub sizes : Sizes (b .devices) (b .cells)
-  pub numbers : (d : ℕ) → d < b .devices → b .numbers d ≤ 1000000
+  pub numbers : (d : ℕ) → d < b .devices → b .numbers d ≤ MOST·PUSHES
 
 -- The words after some steps of the machine.
 pub record At (b : Start sheet) (steps : List (Step sheet)) (xs : List ℕ) : Type 0 where
@@ -73,7 +74,7 @@ module _ (b : Start sheet) (k : Allowed·start b) (steps : List (Step sheet)) wh
   looked s xs ys a A S = subst (λ (zs : List ℕ). At b (steps ++ (s ∷ [])) zs) (sym (S .1)) (stepped s xs xs a A (S .0))
 
   -- what a call leaves is what the machine comes to by its step
-  pub called-step : (c : Call) (xs ys : List ℕ) (a : Answer) → At b steps xs → Called c xs a ys → (Renews record { call = c; answer = a } → ⊥) → At b (steps ++ stepOf c) ys
+  pub called-step : (c : Call) (xs ys : List ℕ) (a : Answer) → At b steps xs → Called c xs a ys → (Renews record { call = c; answer = a } → ⊥) → At b (steps ++ stepOfCall c) ys
   called-step (start devices cells) xs ys a A C n = stays xs ys A (start-stays devices cells xs ys a C (λ e. n (refl, e)))
   called-step (update d cell u) xs ys a A C n = stepped _ xs ys a A C
   called-step (block d entries) xs ys a A C n = stepped _ xs ys a A C
@@ -97,8 +98,8 @@ module _ (b : Start sheet) (k : Allowed·start b) (steps : List (Step sheet)) wh
 pub called-steps : (b : Start sheet) → Allowed·start b → (ms : List Made) (steps : List (Step sheet)) (xs ys : List ℕ) → At b steps xs → Calls xs ms ys → Every (λ m. Renews m → ⊥) ms → At b (steps ++ stepsOf ms) ys
 called-steps b k [] steps xs ys A C n = stays b k steps xs ys A C
 called-steps b k (m ∷ ms) steps xs ys A C n =
-    subst (λ (l : List (Step sheet)). At b l ys) (append-assoc steps (stepOf (m .call)) (stepsOf ms))
-    (called-steps b k ms (steps ++ stepOf (m .call)) (C .0) ys (called-step b k steps (m .call) xs (C .0) (m .answer) A (C .1) (n .0)) (C .2) (n .1))
+    subst (λ (l : List (Step sheet)). At b l ys) (append-assoc steps (stepOfCall (m .call)) (stepsOf ms))
+    (called-steps b k ms (steps ++ stepOfCall (m .call)) (C .0) ys (called-step b k steps (m .call) xs (C .0) (m .answer) A (C .1) (n .0)) (C .2) (n .1))
 
 -- Sizes that are not outside of the allowed are allowed.
 sizes-hold : (devices cells : ℕ) → ((Sizes devices cells → ⊥) → ⊥) → Sizes devices cells

@@ -1,4 +1,5 @@
--- The public calls on lent words, and lists of them. Each call's promise is what stands in its `ensures`. Assumes nothing.
+-- "Each public function's promise determines its answer and the table and buffers afterwards": the public calls on lent words, each with what
+-- stands in its `ensures`, and lists of them. Assumes nothing.
 use mathlib.Core.Path.{_≡_}
 use mathlib.Core.Bool.{Bool, true, false}
 use mathlib.Core.List.{List, [], _∷_}

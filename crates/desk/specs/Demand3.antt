@@ -1,4 +1,4 @@
--- Demand 3 over the calls: what every list of calls comes to, and what the next call answers. Assumes nothing.
+-- "demand 3 over lists", of the calls: what every list of them comes to, and what the next call answers. Assumes nothing.
 use mathlib.Core.Path.{_≡_}
 use mathlib.Core.Bool.{true, false}
 use mathlib.Core.List.{List, [], _∷_, _++_, map}
@@ -21,29 +21,29 @@ use Rattle.block.specs.Block.{updatesIn}
 use Rattle.desk.specs.Calls.{Call, Called, Made, Calls, Renews, Begun, Run, anew, start, update, block, read, confirmed, push, send, ask, give·up, receive, pull, accept, serverdrop, batch, crash, cut, write·image, open·image}
 
 -- The machine's step of a call. A start and an opening that are refused have none, and neither has writing an image.
-abbrev pub stepOf : Call → List (Step sheet)
-stepOf (start devices cells) = []
-stepOf (update d cell u) = machine.update d (updateOf cell u) ∷ []
-stepOf (block d entries) = machine.block d (updatesIn entries) ∷ []
-stepOf (read d cell) = machine.read d cell ∷ []
-stepOf (confirmed d) = machine.confirmed d ∷ []
-stepOf (push d) = machine.push d ∷ []
-stepOf (send d) = machine.send d ∷ []
-stepOf (ask d) = machine.ask d ∷ []
-stepOf (give·up d) = machine.drop·channel d ∷ []
-stepOf (receive d) = machine.receive d ∷ []
-stepOf (pull d) = machine.pull d ∷ []
-stepOf (accept d) = machine.accept d ∷ []
-stepOf (serverdrop d) = machine.serverdrop d ∷ []
-stepOf (batch counts) = machine.batch counts ∷ []
-stepOf crash = machine.crash ∷ []
-stepOf (cut counts reach) = machine.cut counts reach ∷ []
-stepOf (write·image buffer buffer′) = []
-stepOf (open·image bytes) = []
+abbrev pub stepOfCall : Call → List (Step sheet)
+stepOfCall (start devices cells) = []
+stepOfCall (update d cell u) = machine.update d (updateOf cell u) ∷ []
+stepOfCall (block d entries) = machine.block d (updatesIn entries) ∷ []
+stepOfCall (read d cell) = machine.read d cell ∷ []
+stepOfCall (confirmed d) = machine.confirmed d ∷ []
+stepOfCall (push d) = machine.push d ∷ []
+stepOfCall (send d) = machine.send d ∷ []
+stepOfCall (ask d) = machine.ask d ∷ []
+stepOfCall (give·up d) = machine.drop·channel d ∷ []
+stepOfCall (receive d) = machine.receive d ∷ []
+stepOfCall (pull d) = machine.pull d ∷ []
+stepOfCall (accept d) = machine.accept d ∷ []
+stepOfCall (serverdrop d) = machine.serverdrop d ∷ []
+stepOfCall (batch counts) = machine.batch counts ∷ []
+stepOfCall crash = machine.crash ∷ []
+stepOfCall (cut counts reach) = machine.cut counts reach ∷ []
+stepOfCall (write·image buffer buffer′) = []
+stepOfCall (open·image bytes) = []
 
 abbrev pub stepsOf : List Made → List (Step sheet)
 stepsOf [] = []
-stepsOf (m ∷ ms) = stepOf (m .call) ++ stepsOf ms
+stepsOf (m ∷ ms) = stepOfCall (m .call) ++ stepsOf ms
 
 -- The history of the calls: what each device pushed, in which order the server took it, and how far each device has pulled.
 abbrev pub historyOf : Start sheet → List Made → History sheet
@@ -57,24 +57,24 @@ readBy b h d =
     (sheetAt sheet (b .sheet) (h .log) (h .past d .pulled)))
 
 -- The number of a refusal, and 0 of every other answer.
-abbrev pub refusalOf : Answer → ℕ
-refusalOf Done = 0
-refusalOf (Value c) = 0
-refusalOf Yes = 0
-refusalOf No = 0
-refusalOf (Moved k) = 0
-refusalOf (Length k) = 0
-refusalOf (Refused r) = numberOf r
-refusalOf (RefusedAt r k) = numberOf r
+abbrev pub refusalNumber : Answer → ℕ
+refusalNumber Done = 0
+refusalNumber (Value c) = 0
+refusalNumber Yes = 0
+refusalNumber No = 0
+refusalNumber (Moved k) = 0
+refusalNumber (Length k) = 0
+refusalNumber (Refused r) = numberOf r
+refusalNumber (RefusedAt r k) = numberOf r
 
 -- What a call on the words xs, which say the table t, answers, and what it leaves where it is refused.
 pub record Next (t : Table sheet) (c : Call) (xs : List ℕ) (a : Answer) (ys : List ℕ) : Type 0 where
   -- the machine's answer, where the call is a step of the machine
-  pub answers : Every (λ s. meaning a ≡ step sheet s t .answer) (stepOf c)
+  pub answers : Every (λ s. meaning a ≡ step sheet s t .answer) (stepOfCall c)
   -- "Every reached table is one, so 1 never comes from it": a start's or an opening's 1 is about the room for what it is to make
-  pub never-1 : anew c ≡ false → refusalOf a ≡ 1 → ⊥
+  pub never-1 : anew c ≡ false → refusalNumber a ≡ 1 → ⊥
   -- "A refusal .. leaves table .. untouched": every word
-  pub untouched : 0 < refusalOf a → ys ≡ xs
+  pub untouched : 0 < refusalNumber a → ys ≡ xs
 
 -- "serverdrop, ask, accept, receive, batch 8, receive, pull, send, batch 8, receive, pull, done in a row with .. other devices' counts 0"
 abbrev pub reconnect : ℕ → List Call
@@ -92,7 +92,7 @@ pub record Reached (b : Start sheet) (ms : List Made) (xs : List ℕ) : Type 0 w
   -- whatever is called next, refused or not
   pub next : (c : Call) (a : Answer) (ys : List ℕ) → Called c xs a ys → Next (reading xs) c xs a ys
   -- ".. and output buffer untouched"
-  pub buffer-untouched : (buffer buffer′ : List ℕ) (a : Answer) (ys : List ℕ) → Called (write·image buffer buffer′) xs a ys → 0 < refusalOf a → buffer′ ≡ buffer
+  pub buffer-untouched : (buffer buffer′ : List ℕ) (a : Answer) (ys : List ℕ) → Called (write·image buffer buffer′) xs a ys → 0 < refusalNumber a → buffer′ ≡ buffer
   -- each read's value
   pub reads : (d c : ℕ) (a : Answer) (ys : List ℕ) → Called (read d c) xs a ys → d < b .devices → c < b .cells → a ≡ Value (readBy b (historyOf b ms) d c)
   -- each yes of confirmed: all that the device pushed stands in the beginning that it knows, and it has no open edit

@@ -8,23 +8,28 @@ use Rattle.cells.specs.Cells.{added, joined}
 use Rattle.cells.specs.declared.Cell.{Cell}
 use Rattle.cells.specs.declared.Cell.the-variants.{Blank, Count, Measure}
 use Rattle.cells.specs.declared.Change.{Change}
-use Rattle.cells.specs.declared.Change.the-variants.{Set, Add}
-use Rattle.protocol.specs.declared.Refusal.the-variants.{NoCell, PendingFull}
-use Rattle.protocol.specs.Machine.{Device, run, fresh, push, send, ask, accept, receive, pull, read, done, value, refused}
+use Rattle.cells.specs.declared.Change.the-variants.{Nothing, Set, Add}
+use Rattle.cells.specs.declared.Update.{Update}
+use Rattle.protocol.specs.declared.Refusal.the-variants.{NoCell, PendingFull, NoImage}
+use Rattle.protocol.specs.Machine.{Device, run, fresh, update, push, send, ask, accept, receive, pull, read, done, value, refused}
 use Rattle.protocol.specs.Plays.{_gives_, Plays}
 use Rattle.protocol.specs.Plays.{Line as Play}
 use Rattle.sheet.specs.Sheet.{sheet, started}
-use Rattle.coding.specs.Image.{imageOf, Allowed, NotImage}
+use Rattle.sheet.specs.declared.Answer.{Answer}
+use Rattle.device.specs.Named.{updateOf}
+use Rattle.table.specs.Promise.{RefusedWith}
+use Rattle.coding.specs.Image.{imageOf, Allowed}
+use Rattle.image.specs.Promise.{Opened}
 
 -- A line: a cell, a number added and the cell then; two changes and what they join to; steps of a table of so many devices and cells with
--- their answers, what then is in the push buffer of device 0, and the numbers of its pending rounds; allowed cells and numbers with the bytes
--- of their image; bytes that are no image, which refusal 12 answers.
+-- their answers, what then is in the push buffer of device 0, how many pushes and which change of cell 0, and the numbers of its pending rounds; allowed cells and numbers with the bytes
+-- of their image; bytes that opening refuses by 12.
 pub data Line : Type 0 where
   adding : Cell → ℤ → Cell → Line
   joining : Change → Change → Change → Line
   stored : List Cell → List ℕ → List ℕ → Line
   noImage : List ℕ → Line
-  running : (devices cells : ℕ) → List (Play sheet) → (covered : ℕ) → (pending : List ℕ) → Line
+  running : (devices cells : ℕ) → List (Play sheet) → (covered : ℕ) → (buffered : Change) → (pending : List ℕ) → Line
 
 abbrev pub after : (devices cells : ℕ) → List (Play sheet) → Device sheet
 after devices cells plays = run sheet (map (λ p. p .asks) plays) (fresh sheet (started devices cells)) .device 0
@@ -33,12 +38,9 @@ abbrev pub Holds : Line → Type 0
 Holds (adding c n r) = added c n ≡ r
 Holds (joining a b r) = joined a b ≡ r
 Holds (stored cells numbers bytes) = Allowed cells numbers × (imageOf cells numbers ≡ bytes)
-Holds (noImage bytes) = NotImage bytes
-Holds (running devices cells plays covered pending) = Plays sheet (fresh sheet (started devices cells)) plays × (after devices cells plays .covered ≡ covered) × (map (λ r. r .number) (after devices cells plays .pending) ≡ pending)
-
-abbrev pub Each : List Line → Type 0
-Each [] = Unit {0}
-Each (x ∷ xs) = Holds x × Each xs
+Holds (noImage bytes) = (xs ys : List ℕ) (a : Answer) → Opened bytes xs a ys → RefusedWith NoImage xs a ys
+Holds (running devices cells plays covered buffered pending) =
+    Plays sheet (fresh sheet (started devices cells)) plays × (after devices cells plays .covered ≡ covered) × (after devices cells plays .buffered 0 ≡ buffered) × (map (λ r. r .number) (after devices cells plays .pending) ≡ pending)
 
 -- "measured 1.5", by its bits.
 abbrev pub oneAndHalf : Cell
@@ -80,9 +82,9 @@ desk =
     ∷ joining (Set (Count (pos 7))) (Add (pos 2)) (Set (Count (pos 9)))
     ∷ joining (Add (pos 4)) (Set Blank) (Set Blank)
     ∷ adding oneAndHalf (pos 2) oneAndHalf
-    ∷ running 1 64 (read 0 63 gives value Blank ∷ read 0 64 gives refused NoCell ∷ []) 0 []
-    ∷ running 1 1 (linked ++ sends 8 ++ (push 0 gives done ∷ send 0 gives refused PendingFull ∷ [])) 1 (1 ∷ 2 ∷ 3 ∷ 4 ∷ 5 ∷ 6 ∷ 7 ∷ 8 ∷ [])
-    ∷ running 1 1 ((push 0 gives done ∷ push 0 gives done ∷ []) ++ linked ++ (send 0 gives done ∷ [])) 0 (2 ∷ [])
+    ∷ running 1 64 (read 0 63 gives value Blank ∷ read 0 64 gives refused NoCell ∷ []) 0 Nothing []
+    ∷ running 1 1 (linked ++ sends 8 ++ (update 0 (updateOf 0 (Update.Add (pos 1))) gives done ∷ push 0 gives done ∷ send 0 gives refused PendingFull ∷ [])) 1 (Add (pos 1)) (1 ∷ 2 ∷ 3 ∷ 4 ∷ 5 ∷ 6 ∷ 7 ∷ 8 ∷ [])
+    ∷ running 1 1 ((push 0 gives done ∷ push 0 gives done ∷ []) ++ linked ++ (send 0 gives done ∷ [])) 0 Nothing (2 ∷ [])
     ∷ stored (Blank ∷ Count (negsuc 0) ∷ oneAndHalf ∷ []) (0 ∷ []) shortest
     ∷ noImage longer
     ∷ []

@@ -7,7 +7,7 @@ use Prim.Native.Nat.{ℕ, zero, suc, _+_, _*_, _-_, _≤_, _<_, min}
 use native.Mathlib.Numerals.{add-one}
 use native.Mathlib.Omega.{arith}
 use lib.ListN.{length, getD, set, take, length-append}
-use lib.Seq.{take-append-le}
+use lib.Seq.{take-append-le, take-all}
 use Rattle.cells.specs.Cells.{joined}
 use Rattle.cells.specs.declared.Change.{Change}
 use Rattle.cells.specs.declared.Change.the-variants.{Nothing}
@@ -22,10 +22,10 @@ use Rattle.record.proofs.Same.{places-same, places-valid}
 use Rattle.record.proofs.Loops.{joined-across}
 use Rattle.link.specs.Gather.{firstWaiting, roundsOf, JoinedRounds, GatheredOne}
 
--- One round more.
-joinRounds-last : (b : ℕ → Change) (rs : List (Round sheet)) (r : Round sheet) → joinRounds sheet b (rs ++ (r ∷ [])) ≡ (λ c. joined (joinRounds sheet b rs c) (r .delta c))
-joinRounds-last b [] r = refl
-joinRounds-last b (q ∷ rs) r = joinRounds-last (λ c. joined (b c) (q .delta c)) rs r
+-- Rounds joined one after the other can be joined in two parts.
+pub joinRounds-append : (b : ℕ → Change) (rs qs : List (Round sheet)) → joinRounds sheet b (rs ++ qs) ≡ joinRounds sheet (joinRounds sheet b rs) qs
+joinRounds-append b [] qs = refl
+joinRounds-append b (r ∷ rs) qs = joinRounds-append (λ c. joined (b c) (r .delta c)) rs qs
 
 module _ (cells : ℕ) (ss rs : List ℕ) where
   pub rounds-none : Valid changePlace ss ITEM·PLACES cells → JoinedRounds cells 0 ss rs ss
@@ -37,7 +37,7 @@ module _ (cells : ℕ) (ss rs : List ℕ) where
   rounds-more k ts us B F = record {
     is = joined-across cells ts us rs ITEM·PLACES (WAITING + ROUND * k + ROUND·CHANGES) F
         ∙ (λ i c. joined (B .is i c) (changesAt cells rs (WAITING + ROUND * k + ROUND·CHANGES) c))
-        ∙ sym (rw (add-one k) (joinRounds-last (changesAt cells ss ITEM·PLACES) (firstWaiting cells k rs) (roundAt cells rs (WAITING + ROUND * k))));
+        ∙ sym (rw (add-one k) (joinRounds-append (changesAt cells ss ITEM·PLACES) (firstWaiting cells k rs) (roundAt cells rs (WAITING + ROUND * k) ∷ [])));
     valid = F .valid;
     kept = λ i out. F .kept i out ∙ B .kept i out;
   }
@@ -63,15 +63,6 @@ queue-take n (suc w) f = ⊎-elim
     (λ l. let e : min n (suc w) ≡ min n w = omega arith in rw e (take-append-le n (queue w f) (f w ∷ []) (omega (arith, queue-length w f)) ∙ queue-take n w f))
     (λ g. let e : min n (suc w) ≡ suc w = omega arith in rw e (take-all n (queue w f ++ (f w ∷ [])) (simp length-append (omega (arith, queue-length w f)))))
     (lt-or-ge n (suc w))
-  where
-    take-all : {A : Type 0} (n : ℕ) (l : List A) → length l ≤ n → take n l ≡ l
-    take-all n [] h = go2 n
-      where
-        go2 : {A : Type 0} (n : ℕ) → _≡_ {A = List A} (take n []) []
-        go2 zero = refl
-        go2 (suc n) = refl
-    take-all zero (a ∷ l) h = absurd (omega arith)
-    take-all (suc n) (a ∷ l) h = ap (λ t. a ∷ t) (take-all n l (omega arith))
 
 last-of : (rs : List (Round sheet)) (r : Round sheet) → lastNumber sheet (rs ++ (r ∷ [])) ≡ some (r .number)
 last-of [] r = refl
@@ -96,7 +87,7 @@ module _ (cells count d k : ℕ) (ss rs ts : List ℕ) (few : d < 8) (e : k ≡ 
     is = J .is ∙ ap (joinRounds sheet (changesAt cells ss ITEM·PLACES)) (sym rounds-are);
     valid = J .valid;
     number = ap givenBy (J .kept (ITEM·NUMBERS + d) (λ p q. omega arith)) ∙ sym (ap (later (givenBy (getD ss (ITEM·NUMBERS + d) 0))) (ap (lastNumber sheet) (rounds-are ∙ ap (λ (n : ℕ). firstWaiting cells n rs) z) ∙ none-there));
-    others = λ i h n. J .kept i (λ p q. omega arith);
+    others = λ i n out. J .kept i out;
   }
     where
       none-there : lastNumber sheet (firstWaiting cells 0 rs) ≡ none
@@ -108,7 +99,7 @@ module _ (cells count d k : ℕ) (ss rs ts : List ℕ) (few : d < 8) (e : k ≡ 
     is = places-same changePlace change-local cells ts end ITEM·PLACES behind Nothing ∙ J .is ∙ ap (joinRounds sheet (changesAt cells ss ITEM·PLACES)) (sym rounds-are);
     valid = places-valid changePlace change-local cells ts end ITEM·PLACES behind (J .valid);
     number = ap givenBy (set-new ts (ITEM·NUMBERS + d) number (omega arith) ∙ add-one (getD rs (WAITING + ROUND * (k - 1)) 0)) ∙ sym (ap (later (givenBy (getD ss (ITEM·NUMBERS + d) 0))) (ap (lastNumber sheet) (rounds-are ∙ ap (λ (n : ℕ). firstWaiting cells n rs) back) ∙ last-waiting cells (k - 1) rs));
-    others = λ i b n. set-kept ts (ITEM·NUMBERS + d) number i n ∙ J .kept i (λ p q. omega arith);
+    others = λ i n out. set-kept ts (ITEM·NUMBERS + d) number i n ∙ J .kept i out;
   }
     where
       number : ℕ

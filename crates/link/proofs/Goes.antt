@@ -2,10 +2,10 @@
 use mathlib.Core.Path.{_≡_, refl, sym, ap, _∙_, subst}
 use mathlib.Core.Bool.{Bool, true, false, _&&_}
 use mathlib.Core.Logic.{⊎-elim}
-use mathlib.Core.List.{List, [], _∷_}
+use mathlib.Core.List.{List, []}
 use Prim.Native.Nat.{ℕ, zero, suc, _+_, _*_, _-_, _≤_, min}
 use native.Mathlib.Omega.{arith}
-use lib.ListN.{length, getD, set, drop, length-set}
+use lib.ListN.{length, getD, set, drop, length-set, drop-of-length-le}
 use lib.Seq.{drop-length}
 use Rattle.protocol.specs.Machine.{Round, choose, isHeld, isLive, isStale, joinItem, enqueue}
 use Rattle.sheet.specs.Sheet.{sheet}
@@ -46,13 +46,7 @@ gone-few count connection waiting crash = go (crash && isStale (connectionOf con
 
 -- The waiting rounds that are left.
 drop-few : {A : Type 0} (c : ℕ) (l : List A) → drop (min c (length l)) l ≡ drop c l
-drop-few c l = ⊎-elim (λ h. let e : min c (length l) ≡ c = omega arith in ap (λ (k : ℕ). drop k l) e) (λ g. let e : min c (length l) ≡ length l = omega arith in ap (λ (k : ℕ). drop k l) e ∙ drop-length l ∙ sym (drop-all c l g)) (lt-or-ge c (length l))
-  where
-    drop-all : {A : Type 0} (n : ℕ) (l : List A) → length l ≤ n → drop n l ≡ []
-    drop-all zero [] h = refl
-    drop-all (suc n) [] h = refl
-    drop-all zero (a ∷ l) h = absurd (omega arith)
-    drop-all (suc n) (a ∷ l) h = drop-all n l (omega arith)
+drop-few c l = ⊎-elim (λ h. let e : min c (length l) ≡ c = omega arith in ap (λ (k : ℕ). drop k l) e) (λ g. let e : min c (length l) ≡ length l = omega arith in ap (λ (k : ℕ). drop k l) e ∙ drop-length l ∙ sym (drop-of-length-le l g)) (lt-or-ge c (length l))
 
 pub left-is : (b : Bool) (k count : ℕ) (w : List (Round sheet)) → drop (gone count k (length w) b) w ≡ choose b (choose (isStale (connectionOf k)) [] (drop (choose (isHeld (connectionOf k)) count 0) w)) (drop (choose (isHeld (connectionOf k)) count 0) w)
 left-is true zero count w = drop-few 0 w

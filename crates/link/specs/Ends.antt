@@ -9,13 +9,14 @@ use Rattle.words.specs.Layout.{TAKEN}
 use Rattle.record.specs.Reading.{deviceOf}
 use Rattle.link.specs.Turn.{Turned}
 
--- What both have in common: the device's link without a connection.
+-- What both have in common: the device's link without a connection, and with or without a request.
+abbrev pub ended : Bool → Device sheet → Device sheet
+ended r x = withLink sheet x (cutOff sheet r (x .link))
+
+-- The step on one device: nothing is refused.
 abbrev pub end·at : Bool → Device sheet → Local sheet
-end·at r x = fine (withLink sheet x (cutOff sheet r (x .link)))
+end·at r x = fine (ended r x)
 
 -- A crash on one device's record: no connection and no request.
-abbrev pub ended : Device sheet → Device sheet
-ended x = withLink sheet x (cutOff sheet false (x .link))
-
 abbrev pub Ended : (devices cells : ℕ) → List ℕ → List ℕ → Type 0
-Ended devices cells xs = Turned devices cells (ended (deviceOf devices cells xs)) (getD xs TAKEN 0) xs
+Ended devices cells xs = Turned devices cells (ended false (deviceOf devices cells xs)) (getD xs TAKEN 0) xs

@@ -6,7 +6,7 @@ use lib.ListN.{length, getD, take}
 use Rattle.protocol.specs.Machine.{choose, isHeld, later, Round, joinRounds, lastNumber}
 use Rattle.sheet.specs.Sheet.{sheet}
 use Rattle.words.specs.Layout.{MOST·CELLS, MOST·PUSHES, CHANGE, QUEUE, ROUND, ROUND·CHANGES, ITEM, ITEM·NUMBERS, ITEM·PLACES, STALE, CONNECTION, WAITING·LENGTH, WAITING, RECORD}
-use Rattle.words.specs.Place.{changePlace, Valid, Kept}
+use Rattle.words.specs.Place.{changePlace, Out, Valid, Kept}
 use Rattle.record.specs.Reading.{changesAt, queue, roundAt, givenBy, connectionOf}
 
 -- The first k waiting rounds of a record.
@@ -49,4 +49,4 @@ pub record GatheredOne (cells count d : ℕ) (ss rs : List ℕ) (r : ℕ) (ss′
   pub is : changesAt cells ss′ ITEM·PLACES ≡ joinRounds sheet (changesAt cells ss ITEM·PLACES) (roundsOf cells count rs)
   pub valid : Valid changePlace ss′ ITEM·PLACES cells
   pub number : givenBy (getD ss′ (ITEM·NUMBERS + d) 0) ≡ later (givenBy (getD ss (ITEM·NUMBERS + d) 0)) (lastNumber sheet (roundsOf cells count rs))
-  pub others : (i : ℕ) → i < ITEM·PLACES → (i ≡ ITEM·NUMBERS + d → ⊥) → getD ss′ i 0 ≡ getD ss i 0
+  pub others : (i : ℕ) → (i ≡ ITEM·NUMBERS + d → ⊥) → Out ITEM·PLACES (CHANGE * cells) i → getD ss′ i 0 ≡ getD ss i 0

@@ -1,7 +1,7 @@
 -- "It applies them, sets the numbers, and puts one segment on every connection that is not stale"; "cut is a stop after a batch is stored: as
 -- batch, but segments reach only devices numbered below j, then as crash": what both come to on one device. Assumes nothing.
 use mathlib.Core.Path.{_≡_}
-use mathlib.Core.Bool.{Bool}
+use mathlib.Core.Bool.{Bool, false}
 use mathlib.Core.List.{List}
 use Prim.Native.Nat.{ℕ, _+_, _<_}
 use lib.ListN.{getD}
@@ -34,7 +34,7 @@ pub record HungUp (crash : Bool) (xs ys : List ℕ) : Type 0 where
 -- A device after a batch that asked so many rounds of it and made the item, and after a cut.
 abbrev pub settled : (count : ℕ) → (reaches crash : Bool) → Item sheet → Device sheet → Device sheet
 settled count reaches crash i x =
-    choose crash (ended (batched·at sheet (choose (isHeld (x .link .connection)) count 0) reaches i x)) (batched·at sheet (choose (isHeld (x .link .connection)) count 0) reaches i x)
+    choose crash (ended false (batched·at sheet (choose (isHeld (x .link .connection)) count 0) reaches i x)) (batched·at sheet (choose (isHeld (x .link .connection)) count 0) reaches i x)
 
 -- The same of its record, and the number taken.
 abbrev pub Settled : (devices cells d count : ℕ) → (reaches crash : Bool) → (ss xs ys : List ℕ) → Type 0

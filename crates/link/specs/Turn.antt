@@ -1,4 +1,4 @@
--- What a step of the server does to one device's record. Assumes nothing.
+-- "Passing part: connections and requests", on one device's record: what a step of the server makes of it. Assumes nothing.
 use mathlib.Core.Path.{_≡_}
 use mathlib.Core.List.{List}
 use Prim.Native.Nat.{ℕ, _≤_}

@@ -1,10 +1,7 @@
 // What a batch takes from one device: the first rounds that wait on its connection, joined to a segment. The record is not changed yet.
-ghost use mathlib.Core.Path.{_≡_};
-ghost use Prim.Native.Nat.{_≤_, _<_, min};
-ghost use Rattle.protocol.specs.Machine.{choose, isHeld};
-ghost use Rattle.words.specs.Layout.{STALE};
-ghost use Rattle.record.specs.Reading.{connectionOf};
+ghost use Prim.Native.Nat.{_<_};
 ghost use Rattle.link.specs.Gather.{RoundsReady, JoinedRounds, RecordReady, GatheredOne};
+use crate::waiting::share;
 use words::across::join_changes_from;
 use words::layout::CONNECTION;
 use words::layout::ITEM_NUMBERS;
@@ -13,17 +10,6 @@ use words::layout::ROUND;
 use words::layout::ROUND_CHANGES;
 use words::layout::WAITING;
 use words::layout::WAITING_LENGTH;
-
-// How many of the waiting rounds a count takes: none without a connection.
-pub fn share(count: u64, connection: u64, waiting: u64) -> u64
-    requires { ⌜ connection ≤ STALE ⌝ }
-    ensures { λ r. ⌜ r ≡ min (choose (isHeld (connectionOf connection)) count 0) waiting ⌝ }
-{
-    if connection == 0 {
-        return 0;
-    }
-    if count < waiting { count } else { waiting }
-}
 
 // Joins the first k waiting rounds of a record to a segment's changes.
 fn join_rounds(segment: &mut [u64], r: &[u64], k: usize, cells: usize)

@@ -13,28 +13,29 @@ use Rattle.protocol.specs.Machine as machine
 use Rattle.sheet.specs.Sheet.{sheet}
 use Rattle.sheet.specs.declared.Answer.{Answer}
 use Rattle.device.specs.Named.{updateOf}
-use Rattle.table.specs.Promise.{Stepped}
+use Rattle.table.specs.Promise.{Stepped, Started}
+use Rattle.table.specs.Asked.{Asked, no·step, DoesWith}
 use Rattle.block.specs.Block.{updatesIn}
 use Rattle.block.specs.declared.Entry.{Entry}
-use Rattle.probing.specs.Probe.{updateFrom, entryAt, Asked, no·call, calls, numbered, Does, Probed}
+use Rattle.probing.specs.Probe.{updateFrom, entryAt, calls, numbered, Probed}
 
 -- a number that a match has told
-pub probed-as : (call told a b : ℕ) (u : Update) (ws xs : List ℕ) (r : Answer) (ys : List ℕ) → call ≡ told → Does (numbered (calls a b u ws) told) xs r ys → Probed call a b u ws xs r ys
-probed-as call told a b u ws xs r ys e h = record { holds = subst (λ (n : ℕ). Does (numbered (calls a b u ws) n) xs r ys) (sym e) h }
+pub probed-as : (call told a b : ℕ) (u : Update) (ws xs : List ℕ) (r : Answer) (ys : List ℕ) → call ≡ told → DoesWith Started (numbered (calls a b u ws) told) xs r ys → Probed call a b u ws xs r ys
+probed-as call told a b u ws xs r ys e h = record { holds = subst (λ (n : ℕ). DoesWith Started (numbered (calls a b u ws) n) xs r ys) (sym e) h }
 
 -- from k on, and not k
 pub beyond : (k n : ℕ) → (n ≡ k → ⊥) → k ≤ n → k + 1 ≤ n
 beyond k n a h = omega arith
 
--- past the last number there is no call
-pub numbered-past : (qs : List Asked) (n : ℕ) → length qs ≤ n → numbered qs n ≡ no·call
+-- past the last number there is no step
+pub numbered-past : (qs : List Asked) (n : ℕ) → length qs ≤ n → numbered qs n ≡ no·step
 numbered-past [] n h = refl
 numbered-past (q ∷ qs) zero h = absurd (omega arith)
 numbered-past (q ∷ qs) (suc n) h = numbered-past qs n (omega arith)
 
 pub refused-past : (call a b : ℕ) (u : Update) (ws xs : List ℕ) → 16 ≤ call → Probed call a b u ws xs (Answer.Refused NoStep) xs
 refused-past call a b u ws xs h =
-    record { holds = subst (λ (q : Asked). Does q xs (Answer.Refused NoStep) xs) (sym (numbered-past (calls a b u ws) call h)) (record { number = refl; untouched = refl }) }
+    record { holds = subst (λ (q : Asked). DoesWith Started q xs (Answer.Refused NoStep) xs) (sym (numbered-past (calls a b u ws) call h)) (record { number = refl; untouched = refl }) }
 
 -- a kind but 1, 2 and 3 adds
 pub adds : (k p : ℕ) → (k ≡ 1 → ⊥) → (k ≡ 2 → ⊥) → (k ≡ 3 → ⊥) → updateFrom k p ≡ Update.Add (toZ w64 p)

@@ -1,4 +1,4 @@
--- A call by its number, with numbers for its arguments, as a test sends it. Assumes nothing.
+-- "on every input, refused or not": a call by its number, with numbers for its arguments, as a test sends it. Assumes nothing.
 use mathlib.Core.Path.{_≡_}
 use mathlib.Core.Bool.{false}
 use mathlib.Core.List.{List, [], _∷_}
@@ -10,13 +10,12 @@ use mir.Val.{toZ}
 use Rattle.cells.specs.Finite.{finiteWord}
 use Rattle.cells.specs.declared.Cell.the-variants.{Blank, Count, Measure}
 use Rattle.cells.specs.declared.Update.{Update}
-use Rattle.protocol.specs.declared.Refusal.the-variants.{NoStep}
-use Rattle.protocol.specs.Machine.{choose, step}
+use Rattle.protocol.specs.Machine.{choose}
 use Rattle.protocol.specs.Machine as machine
-use Rattle.sheet.specs.Sheet.{sheet}
 use Rattle.sheet.specs.declared.Answer.{Answer}
 use Rattle.device.specs.Named.{updateOf}
-use Rattle.table.specs.Promise.{RefusedWith, Stepped, Started}
+use Rattle.table.specs.Promise.{Started}
+use Rattle.table.specs.Asked.{Asked, no·step, start, machine·step, DoesWith}
 use Rattle.block.specs.Block.{updatesIn}
 use Rattle.block.specs.declared.Entry.{Entry}
 
@@ -39,12 +38,6 @@ entryAt ws i = record { cell = getD ws i 0; update = updateFrom (getD ws (i + 1)
 abbrev pub entriesIn : List ℕ → List Entry
 entriesIn ws = entryAt ws 0 ∷ entryAt ws 3 ∷ entryAt ws 6 ∷ entryAt ws 9 ∷ []
 
--- What a number asks for: a start, or a step of the machine; or it is no call's.
-pub data Asked : Type 0 where
-  no·call : Asked
-  start : (devices cells : ℕ) → Asked
-  machine·step : machine.Step sheet → Asked
-
 -- The calls in the order of their numbers, from 0.
 abbrev pub calls : (a b : ℕ) → Update → List ℕ → List Asked
 calls a b u ws =
@@ -65,20 +58,15 @@ calls a b u ws =
     machine·step (machine.cut ws a) ∷
     machine·step (machine.block a (updatesIn (take (min b 4) (entriesIn ws)))) ∷ []
 
+-- A number past the last is no step.
 abbrev pub numbered : List Asked → ℕ → Asked
-numbered [] n = no·call
+numbered [] n = no·step
 numbered (q ∷ qs) zero = q
 numbered (q ∷ qs) (suc n) = numbered qs n
 
--- What was asked is done to the words xs: the answer is r, and they become ys.
-abbrev pub Does : Asked → (xs : List ℕ) → Answer → (ys : List ℕ) → Type 0
-Does no·call xs r ys = RefusedWith NoStep xs r ys
-Does (start devices cells) xs r ys = Started devices cells xs r ys
-Does (machine·step m) xs r ys = Stepped (step sheet m) xs r ys
-
 -- The promise of the call of a number. a and b are its numbers: devices and cells, a device and a cell, a device and how many entries, a reach.
 pub record Probed (call a b : ℕ) (u : Update) (ws xs : List ℕ) (r : Answer) (ys : List ℕ) : Type 0 where
-  pub holds : Does (numbered (calls a b u ws) call) xs r ys
+  pub holds : DoesWith Started (numbered (calls a b u ws) call) xs r ys
 
 -- No second outcome fits, whatever the number, the arguments and the words.
 abbrev pub One·probe : Type 0

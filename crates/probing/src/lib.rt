@@ -1,7 +1,7 @@
 // Any call on lent words, by its number and with numbers for its arguments: what a test sends from outside.
 ghost use mathlib.Core.Path.{_≡_};
 ghost use Prim.Native.Nat.{_≤_, min};
-ghost use lib.ListN.{getD, take};
+ghost use lib.ListN.{take};
 ghost use Rattle.protocol.specs.Machine.{step};
 ghost use Rattle.protocol.specs.Machine as machine;
 ghost use Rattle.sheet.specs.Sheet.{sheet};

@@ -1,5 +1,4 @@
 pub mod Replies
-pub mod MachineAnswers
 pub mod Refusing
 pub mod Outcomes
 pub mod Bytewise

@@ -2,13 +2,11 @@
 use mathlib.Core.Path.{_≡_, sym, ap, subst, _∙_}
 use mathlib.Core.List.{List, [], _∷_, _++_}
 use Prim.Native.Nat.{ℕ}
-use Rattle.protocol.specs.declared.Refusal.the-variants.{NoTable, OutsideAllowed, NoStep}
-use Rattle.protocol.specs.Machine.{step}
+use Rattle.protocol.specs.declared.Refusal.the-variants.{NoTable, OutsideAllowed}
 use Rattle.protocol.specs.Fits.{Sizes}
-use Rattle.sheet.specs.Sheet.{sheet}
 use Rattle.sheet.specs.declared.Answer.{Answer}
 use Rattle.words.specs.Layout.{DEVICES}
-use Rattle.table.proofs.Once.{refused-once, either-way, one-outcome, one-start}
+use Rattle.table.proofs.Once.{refused-once, either-way, one-start, does-once}
 use Rattle.text.specs.Text.{Put}
 use Rattle.text.proofs.PutLaws.{put-once}
 use Rattle.lines.specs.Held.{fedOf, finishOf}
@@ -16,8 +14,8 @@ use Rattle.lines.specs.declared.Fed.{Fed}
 use Rattle.lines.specs.declared.Fed.the-variants.{More, Line, Long}
 use Rattle.steps.specs.Parse.{parseLine}
 use Rattle.answers.specs.Answer.{answerLine}
-use Rattle.answering.specs.Program.{Asked, no·step, start, machine·step, asked}
-use Rattle.answering.specs.Answered.{Small, StartedSmall, Does}
+use Rattle.answering.specs.Program.{asked}
+use Rattle.answering.specs.Answered.{Small, StartedSmall}
 use Rattle.stepping.specs.Bytes.{Place, Told, ByteFed, BytesFed}
 use Rattle.program.specs.Claims.{One·answer, One·chunk, One·end}
 use lib.ListN.{getD, take}
@@ -28,13 +26,8 @@ module _ (xs : List ℕ) (a b : Answer) (ys zs : List ℕ) where
       (λ z. either-way (Small devices cells) a b ys zs (λ m. one-start devices cells xs ys zs a b (A .begun z m) (B .begun z m)) (λ n. refused-once NoTable xs ys zs a b (A .large z n) (B .large z n)))
       (λ n. refused-once OutsideAllowed xs ys zs a b (A .outside n) (B .outside n))
 
-  does-once : (k : Asked) → Does k xs a ys → Does k xs b zs → (a ≡ b) × (ys ≡ zs)
-  does-once no·step A B = refused-once NoStep xs ys zs a b A B
-  does-once (start devices cells) A B = start-once devices cells A B
-  does-once (machine·step m) A B = one-outcome (step sheet m) xs ys zs a b A B
-
 pub one-answer : One·answer
-one-answer line xs a b ys zs A B = does-once xs a b ys zs (asked (parseLine (getD xs DEVICES 0) line)) A B
+one-answer line xs a b ys zs A B = does-once StartedSmall xs ys zs a b (start-once xs a b ys zs) (asked (parseLine (getD xs DEVICES 0) line)) A B
 
 -- what is told of a byte, and at the end
 told-once : (f : Fed) (buffer xs s ys t zs : List ℕ) → Told f buffer xs s ys → Told f buffer xs t zs → (s ≡ t) × (ys ≡ zs)

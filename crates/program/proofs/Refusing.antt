@@ -18,11 +18,12 @@ use Rattle.steps.specs.Grammar.{LineOf}
 use Rattle.steps.specs.Parse.{parseLine}
 use Rattle.steps.specs.declared.parse.Step.{Step}
 use Rattle.steps.proofs.Exactly.{is-step, step-is, no-step, none-step}
-use Rattle.answering.specs.Program.{Reply, Asked, no·step, start, machine·step, asked, allowed, small, startFrom, stepFrom, replyTo, devicesOf, answerTo}
+use Rattle.table.specs.Asked.{Asked, no·step, start, machine·step}
+use Rattle.answering.specs.Program.{Reply, asked, allowed, small, startFrom, stepFrom, replyTo, devicesOf, answerTo}
 use Rattle.answering.specs.Answered.{Small}
 use Rattle.program.specs.Claims.{Refusal·keeps·the·table, Refusals, Refused·exactly·when}
 use Rattle.program.proofs.Replies.{sizes-of, of-sizes, small-of, of-small}
-use Rattle.program.proofs.MachineAnswers.{isAnswer, step-answers}
+use Rattle.sheet.proofs.MachineAnswers.{isAnswer, step-answers}
 
 -- the machine's refusals are not the program's
 not-machine : (m : machine.Step sheet) (t : Table sheet) (a : Answer sheet) → isAnswer a ≡ false → step sheet m t .answer ≡ a → ⊥

@@ -23,7 +23,8 @@ use Rattle.words.specs.Layout.{DEVICES}
 use Rattle.table.specs.Table.{need, reading, IsTable}
 use Rattle.table.specs.Promise.{RefusedWith, Stepped}
 use Rattle.steps.specs.Parse.{parseLine}
-use Rattle.answering.specs.Program.{Asked, no·step, start, machine·step, asked, allowed, small, startFrom, stepFrom, replyTo, devicesOf, answerTo, tableAfter}
+use Rattle.table.specs.Asked.{Asked, no·step, start, machine·step}
+use Rattle.answering.specs.Program.{asked, allowed, small, startFrom, stepFrom, replyTo, devicesOf, answerTo, tableAfter}
 use Rattle.answering.specs.Answered.{Small, StartedSmall, Does}
 use Rattle.program.specs.Claims.{Zeros·hold·no·table, Reached, Holds, Answers·as·the·machine, Answers·every·line}
 

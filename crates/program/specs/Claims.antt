@@ -21,7 +21,8 @@ use Rattle.lines.specs.Lines.{endedIn, pendingAfter}
 use Rattle.lines.specs.Held.{Held, finishOf}
 use Rattle.steps.specs.Grammar.{LineOf}
 use Rattle.steps.specs.declared.parse.Step.{Step}
-use Rattle.answering.specs.Program.{machine·step, asked, devicesOf, answerTo, answersTo, tableAfter, outputOf}
+use Rattle.table.specs.Asked.{machine·step}
+use Rattle.answering.specs.Program.{asked, devicesOf, answerTo, answersTo, tableAfter, outputOf}
 use Rattle.answering.specs.Answered.{Small, Answered}
 use Rattle.stepping.specs.Bytes.{Place, nothing, Told, BytesFed, ChunkFed, Finished, ChunksFed}
 

@@ -16,7 +16,7 @@ use Rattle.cells.specs.declared.Change.the-variants.{Nothing}
 use Rattle.protocol.specs.Machine.{Table, Device, Item, segment, given, freshDevice, lastNumber, roundsAt, allRounds, applyRounds, joinRounds, moved·by, theSegment, batched, afterCrash}
 use Rattle.protocol.proofs.Basics.{apply-joinRounds}
 use Rattle.sheet.specs.Sheet.{sheet}
-use Rattle.words.specs.Layout.{MOST·DEVICES, CELL, CHANGE, ITEM·KIND, ITEM·NUMBERS, ITEM·PLACES, TAKEN, SHEET, DEVICES, CELLS, RECORD, RECORDS}
+use Rattle.words.specs.Layout.{CELL, CHANGE, ITEM·KIND, ITEM·NUMBERS, ITEM·PLACES, TAKEN, SHEET, DEVICES, CELLS, RECORD, RECORDS}
 use Rattle.words.specs.Place.{cellPlace, changePlace, cellAt, changeAt, Across, Filled, Kept, Valid}
 use Rattle.words.proofs.Places.{lt-or-ge}
 use Rattle.record.specs.Reading.{below, changesAt, sheetAt, givenBy, givenAt, itemOf, itemAt, deviceOf}
@@ -33,6 +33,7 @@ use Rattle.server.specs.Gather.{TableReady, Gathered}
 use Rattle.link.specs.Settle.{settled, Settled}
 use Rattle.link.specs.Turn.{Turned, Sound}
 use Rattle.server.specs.Turn.{AllSound}
+use Rattle.server.proofs.GatherAll.{few-devices, few-cells}
 use Rattle.server.proofs.Turns.{all-turned}
 
 -- Every device settled is the table after a batch or a cut.
@@ -61,16 +62,10 @@ past-none xs counts d h = rw (le-ltb d (getD xs DEVICES 0) h) (nothing 0)
     nothing (suc n) = refl
 
 module _ (xs counts : List ℕ) (devices cells : ℕ) (T : TableReady xs devices cells) (k : ℕ) (ss : List ℕ) (G : Gathered xs counts devices cells k ss) where
-  few-devices : devices ≤ MOST·DEVICES
-  few-devices = let z = T .table .valid .sizes in let e = T .devices-are in omega arith
-
-  few-cells : cells ≤ 64
-  few-cells = let z = T .table .valid .sizes in let e = T .cells-are in omega arith
-
   pub segment-item : ItemReady devices cells ss
   segment-item = record {
-    few-devices = few-devices;
-    few-cells = few-cells;
+    few-devices = few-devices xs devices cells T;
+    few-cells = few-cells xs devices cells T;
     item = G .item;
     valid = record {
       kind-from-1 = omega (arith, G .kind);
@@ -88,11 +83,11 @@ module _ (xs counts : List ℕ) (devices cells : ℕ) (T : TableReady xs devices
   devices-read : reading xs .devices ≡ devices
   devices-read = unfold reading in (sym (T .devices-are))
 
+  changes-are : changesAt cells ss ITEM·PLACES ≡ joinRounds sheet (λ c. Nothing) (allRounds sheet (reading xs) counts (reading xs .devices))
+  changes-are = G .changes ∙ ap (λ (n : ℕ). joinRounds sheet (λ c. Nothing) (allRounds sheet (reading xs) counts n)) (sym devices-read)
+
   pub segment-is : itemAt devices cells ss ITEM·KIND ≡ theSegment sheet (reading xs) counts
   segment-is = unfold itemAt in (ap (λ (n : ℕ). itemOf devices cells n ss ITEM·KIND) (G .kind) ∙ (λ i. Item.segment (changes-are i) (numbers-are i)))
-    where
-      changes-are : changesAt cells ss ITEM·PLACES ≡ joinRounds sheet (λ c. Nothing) (allRounds sheet (reading xs) counts (reading xs .devices))
-      changes-are = G .changes ∙ ap (λ (n : ℕ). joinRounds sheet (λ c. Nothing) (allRounds sheet (reading xs) counts n)) (sym devices-read)
 
   moved-is : k ≡ moved·by sheet (reading xs) counts
   moved-is = G .many ∙ ap (λ (n : ℕ). length (allRounds sheet (reading xs) counts n)) (sym devices-read)
@@ -102,7 +97,7 @@ module _ (xs counts : List ℕ) (devices cells : ℕ) (T : TableReady xs devices
 
   pub can-apply : Across cellPlace changePlace xs ss SHEET ITEM·PLACES cells × Valid cellPlace xs SHEET cells
   can-apply =
-      let f = few-cells in
+      let f = few-cells xs devices cells T in
       let long = T .table .valid .long in
       let l = G .item in
       (record { to-fits = omega arith; from-fits = omega arith; from-valid = G .valid }, server-valid)
@@ -114,7 +109,7 @@ module _ (xs counts : List ℕ) (devices cells : ℕ) (T : TableReady xs devices
 
     same-records : (d : ℕ) → d < devices → recordAt mid d ≡ recordAt xs d
     same-records d h =
-        let f = few-cells in
+        let f = few-cells xs devices cells T in
         let long = T .table .valid .long in
         let e = T .devices-are in
         record-same xs mid d (omega arith) len (λ i b. F .kept (RECORDS + RECORD * d + i) (λ p q. omega arith))
@@ -131,7 +126,7 @@ module _ (xs counts : List ℕ) (devices cells : ℕ) (T : TableReady xs devices
         sound : (d : ℕ) → d < devices → Sound devices cells (recordAt xs d)
         sound d h =
             let R = record-of xs (T .table) d (let e = T .devices-are in omega arith) in
-            record { few-devices = few-devices; few-cells = few-cells; valid = rw (T .devices-are, T .cells-are) (R .valid) }
+            record { few-devices = few-devices xs devices cells T; few-cells = few-cells xs devices cells T; valid = rw (T .devices-are, T .cells-are) (R .valid) }
 
     after : ℕ → Cell
     after = applyRounds sheet (allRounds sheet (reading xs) counts (reading xs .devices)) (reading xs .sheet)
@@ -141,9 +136,6 @@ module _ (xs counts : List ℕ) (devices cells : ℕ) (T : TableReady xs devices
       where
         old : sheetAt cells xs SHEET ≡ reading xs .sheet
         old = unfold reading in (ap (λ (c : ℕ). sheetAt c xs SHEET) (T .cells-are))
-
-        changes-are : changesAt cells ss ITEM·PLACES ≡ joinRounds sheet (λ c. Nothing) (allRounds sheet (reading xs) counts (reading xs .devices))
-        changes-are = G .changes ∙ ap (λ (n : ℕ). joinRounds sheet (λ c. Nothing) (allRounds sheet (reading xs) counts n)) (sym devices-read)
 
         is : sheetAt cells mid SHEET ≡ after
         is = unfold after in (applied-across cells xs mid ss SHEET ITEM·PLACES F ∙ (λ i c. applied (old i c) (changes-are i c)) ∙ apply-joinRounds sheet (λ c. Nothing) (allRounds sheet (reading xs) counts (reading xs .devices)) (reading xs .sheet))

@@ -34,10 +34,10 @@ ready-record xs devices cells P ys d l h b E =
     rw (each-ahead (λ k. Ended devices cells) xs ys d d l h (omega arith) E) r
 
 -- Nobody past the devices has a connection to lose.
-ended-below : (n : ℕ) (f : ℕ → Device sheet) → below n (λ d. ended (f d)) (freshDevice sheet (λ c. Blank) 0) ≡ (λ d. ended (below n f (freshDevice sheet (λ c. Blank) 0) d))
+ended-below : (n : ℕ) (f : ℕ → Device sheet) → below n (λ d. ended false (f d)) (freshDevice sheet (λ c. Blank) 0) ≡ (λ d. ended false (below n f (freshDevice sheet (λ c. Blank) 0) d))
 ended-below n f = fun-ext (λ d. both (ltb d n) (f d))
   where
-    both : (b : Bool) (x : Device sheet) → choose b (ended x) (freshDevice sheet (λ c. Blank) 0) ≡ ended (choose b x (freshDevice sheet (λ c. Blank) 0))
+    both : (b : Bool) (x : Device sheet) → choose b (ended false x) (freshDevice sheet (λ c. Blank) 0) ≡ ended false (choose b x (freshDevice sheet (λ c. Blank) 0))
     both true x = refl
     both false x = refl
 
@@ -47,7 +47,7 @@ module _ (xs ys : List ℕ) (T : IsTable xs) (l : length ys ≡ length xs) (E : 
     cells = getD xs CELLS 0;
     sheet = reading xs .sheet;
     taken = below (getD xs DEVICES 0) (λ d. getD (recordAt xs d) TAKEN 0) 0;
-    device = below (getD xs DEVICES 0) (λ d. ended (deviceOf (getD xs DEVICES 0) (getD xs CELLS 0) (recordAt xs d))) (freshDevice sheet (λ c. Blank) 0);
+    device = below (getD xs DEVICES 0) (λ d. ended false (deviceOf (getD xs DEVICES 0) (getD xs CELLS 0) (recordAt xs d))) (freshDevice sheet (λ c. Blank) 0);
   } ≡ step sheet crash (reading xs) .table
   unfolding reading step afterCrash
   crash-is = (λ i. record {
@@ -62,5 +62,5 @@ module _ (xs ys : List ℕ) (T : IsTable xs) (l : length ys ≡ length xs) (E : 
   crashed = record {
     no-table = λ n. absurd (n T);
     answer = λ t. unfold step in refl;
-    after = λ t. all-turned xs xs ys (T .valid) l (reading xs .sheet) (server-sheet xs (T .valid)) (λ i o. refl) (λ d. ended (deviceOf (getD xs DEVICES 0) (getD xs CELLS 0) (recordAt xs d))) (λ d. getD (recordAt xs d) TAKEN 0) (record { each = E .each; kept = E .kept }) _ crash-is;
+    after = λ t. all-turned xs xs ys (T .valid) l (reading xs .sheet) (server-sheet xs (T .valid)) (λ i o. refl) (λ d. ended false (deviceOf (getD xs DEVICES 0) (getD xs CELLS 0) (recordAt xs d))) (λ d. getD (recordAt xs d) TAKEN 0) (record { each = E .each; kept = E .kept }) _ crash-is;
   }

@@ -1,18 +1,16 @@
 -- What gathering from every device makes of a segment. Assumes nothing.
 use mathlib.Core.Path.{_≡_, refl, sym, ap, _∙_, subst}
 use mathlib.Core.Logic.{⊎-elim}
-use mathlib.Core.List.{List, [], _∷_, _++_}
+use mathlib.Core.List.{List, [], _∷_}
 use mathlib.Core.Option.{Option, none, some}
 use Prim.Native.Nat.{ℕ, zero, suc, _+_, _*_, _-_, _≤_, _<_}
 use native.Mathlib.Numerals.{add-one}
 use native.Mathlib.Omega.{arith}
 use lib.ListN.{length, getD, take, set, length-set, length-append}
-use Rattle.cells.specs.Cells.{joined}
-use Rattle.cells.specs.declared.Change.{Change}
 use Rattle.cells.specs.declared.Change.the-variants.{Nothing}
 use Rattle.protocol.specs.Machine.{Device, Round, later, choose, isHeld, joinRounds, lastNumber, roundsAt, allRounds}
 use Rattle.sheet.specs.Sheet.{sheet}
-use Rattle.words.specs.Layout.{MOST·PUSHES, CHANGE, ITEM, ITEM·KIND, ITEM·NUMBERS, ITEM·PLACES, SEGMENT, WAITING·LENGTH, PENDING·LENGTH, ROUND, WAITING, CONNECTION, RECORD, RECORDS, DEVICES, CELLS}
+use Rattle.words.specs.Layout.{MOST·DEVICES, MOST·PUSHES, CHANGE, ITEM, ITEM·KIND, ITEM·NUMBERS, ITEM·PLACES, SEGMENT, WAITING·LENGTH, PENDING·LENGTH, ROUND, WAITING, CONNECTION, RECORD, RECORDS, DEVICES, CELLS}
 use Rattle.words.specs.Place.{changePlace, Filled, Numbers, Valid}
 use Rattle.words.proofs.Places.{Same, lt-or-ge, set-kept, set-new, change-local}
 use Rattle.record.specs.Reading.{queue, roundAt, givenBy, connectionOf, linkOf, deviceOf}
@@ -24,6 +22,7 @@ use Rattle.record.proofs.Conditions.{is-singles, is-lengths, are-pending, are-w
 use Rattle.table.specs.Table.{reading, recordAt}
 use Rattle.table.proofs.Tables.{device-at, record-of}
 use Rattle.link.specs.Gather.{roundsOf, RecordReady, GatheredOne}
+use Rattle.link.proofs.Gathers.{joinRounds-append}
 use Rattle.server.specs.Gather.{TableReady, SegmentReady, Gathered}
 
 -- The rounds of a device are those of its record.
@@ -33,10 +32,6 @@ rounds-at xs counts d h = ap (λ (x : Device sheet). taken x) (device-at xs d h)
   where
     taken : Device sheet → List (Round sheet)
     taken x = take (choose (isHeld (x .link .connection)) (getD counts d 0) 0) (x .link .waiting)
-
-joinRounds-append : (b : ℕ → Change) (rs qs : List (Round sheet)) → joinRounds sheet b (rs ++ qs) ≡ joinRounds sheet (joinRounds sheet b rs) qs
-joinRounds-append b [] qs = refl
-joinRounds-append b (r ∷ rs) qs = joinRounds-append (λ c. joined (b c) (r .delta c)) rs qs
 
 later-none : (a : Option ℕ) → later none a ≡ a
 later-none none = refl
@@ -64,6 +59,10 @@ module _ (devices cells : ℕ) (rs : List ℕ) (R : IsRecord devices cells rs) w
     rounds = R .valid .waiting;
     in-range = waiting-in-range;
   }
+
+-- The sizes that a call has read are within the allowed numbers.
+pub few-devices : (xs : List ℕ) (devices cells : ℕ) → TableReady xs devices cells → devices ≤ MOST·DEVICES
+few-devices xs devices cells T = let z = T .table .valid .sizes in let e = T .devices-are in omega arith
 
 pub few-cells : (xs : List ℕ) (devices cells : ℕ) → TableReady xs devices cells → cells ≤ 64
 few-cells xs devices cells T = let z = T .table .valid .sizes in let e = T .cells-are in omega arith
@@ -129,10 +128,10 @@ module _ (xs counts : List ℕ) (cells : ℕ) where
   gathered-more n r k ss ss′ c h few l G O =
       rw (add-one n) (record {
         item = l;
-        kind = O .others ITEM·KIND (omega arith) (λ q. omega arith) ∙ G .kind;
+        kind = O .others ITEM·KIND (λ q. omega arith) (λ p q. omega arith) ∙ G .kind;
         many = let m = length-append (allRounds sheet (reading xs) counts n) (roundsAt sheet (reading xs) counts n) in let a = G .many in let b = O .many ∙ ap length (sym rounds-are) in omega arith;
         numbers = λ d b. ⊎-elim (λ q. same-number d q ∙ G .numbers d q) (λ g. let e : d ≡ n = omega arith in rw e (new-number)) (lt-or-ge d n);
-        ahead = λ d b q. O .others (ITEM·NUMBERS + d) (omega arith) (λ e. omega arith) ∙ G .ahead d (omega arith) q;
+        ahead = λ d b q. O .others (ITEM·NUMBERS + d) (λ e. omega arith) (λ l g. omega arith) ∙ G .ahead d (omega arith) q;
         changes = O .is ∙ (λ i. joinRounds sheet (G .changes i) (sym rounds-are i)) ∙ sym (joinRounds-append (λ c. Nothing) (allRounds sheet (reading xs) counts n) (roundsAt sheet (reading xs) counts n));
         valid = O .valid;
       })
@@ -141,7 +140,7 @@ module _ (xs counts : List ℕ) (cells : ℕ) where
       rounds-are = rounds-at xs counts n h ∙ ap (λ (m : ℕ). roundsOf m (getD counts n 0) (recordAt xs n)) (sym c)
 
       same-number : (d : ℕ) → d < n → givenBy (getD ss′ (ITEM·NUMBERS + d) 0) ≡ givenBy (getD ss (ITEM·NUMBERS + d) 0)
-      same-number d q = ap givenBy (O .others (ITEM·NUMBERS + d) (omega arith) (λ e. omega arith))
+      same-number d q = ap givenBy (O .others (ITEM·NUMBERS + d) (λ e. omega arith) (λ l g. omega arith))
 
       new-number : givenBy (getD ss′ (ITEM·NUMBERS + n) 0) ≡ lastNumber sheet (roundsAt sheet (reading xs) counts n)
       new-number = O .number ∙ (λ i. later (givenBy (G .ahead n (omega arith) few i)) (lastNumber sheet (sym rounds-are i))) ∙ later-none (lastNumber sheet (roundsAt sheet (reading xs) counts n))

@@ -18,7 +18,7 @@ use Rattle.table.proofs.Tables.{record-of}
 use Rattle.table.proofs.Part.{record-word}
 use Rattle.server.specs.Gather.{TableReady}
 use Rattle.server.specs.Prefix.{PrefixIs}
-use Rattle.server.proofs.GatherAll.{there, few-cells}
+use Rattle.server.proofs.GatherAll.{there, few-devices, few-cells}
 
 -- The number taken of a device that is there, in its record and in the table, is in range.
 module _ (xs : List ℕ) (devices cells : ℕ) (T : TableReady xs devices cells) (d : ℕ) (h : d < devices) where
@@ -46,11 +46,8 @@ module _ (xs : List ℕ) (devices cells : ℕ) (T : TableReady xs devices cells)
   unfolding end
   behind i h = set-kept y2 ITEM·KIND PREFIX i (λ q. omega arith)
 
-  few-devices : devices ≤ 8
-  few-devices = let z = T .table .valid .sizes in let e = T .devices-are in omega arith
-
   number-is : (d : ℕ) → d < devices → getD end (ITEM·NUMBERS + d) 0 ≡ getD (recordAt xs d) TAKEN 0 + 1
-  number-is d h = let f = few-devices in behind (ITEM·NUMBERS + d) (omega arith) ∙ F .kept (ITEM·NUMBERS + d) (λ p q. omega arith) ∙ N .is d h
+  number-is d h = let f = few-devices xs devices cells T in behind (ITEM·NUMBERS + d) (omega arith) ∙ F .kept (ITEM·NUMBERS + d) (λ p q. omega arith) ∙ N .is d h
 
   kind-is : getD end ITEM·KIND 0 ≡ PREFIX
   unfolding end

@@ -1,26 +1,25 @@
 -- A table all of whose records the server turned. Assumes nothing.
-use mathlib.Core.Path.{_≡_, refl, sym, ap, _∙_}
-use mathlib.Core.Logic.{⊎-elim}
+use mathlib.Core.Path.{_≡_, refl, sym, _∙_}
 use mathlib.Core.List.{List}
-use Prim.Native.Nat.{ℕ, _+_, _*_, _-_, _/_, _%_, _≤_, _<_}
+use Prim.Native.Nat.{ℕ, _+_, _*_, _<_}
 use native.Mathlib.Omega.{arith}
 use lib.ListN.{length, getD}
 use Rattle.cells.specs.declared.Cell.{Cell}
 use Rattle.cells.specs.declared.Cell.the-variants.{Blank}
 use Rattle.protocol.specs.Machine.{Table, Device, freshDevice}
 use Rattle.sheet.specs.Sheet.{sheet}
-use Rattle.words.specs.Layout.{CELL, TAKEN, SHEET, DEVICES, CELLS, RECORD, RECORDS}
+use Rattle.words.specs.Layout.{CELL, SHEET, DEVICES, CELLS, RECORD, RECORDS}
 use Rattle.words.specs.Place.{cellPlace, Kept}
-use Rattle.words.proofs.Places.{lt-or-ge, cell-local}
-use Rattle.record.specs.Reading.{below, sheetAt, deviceOf}
+use Rattle.words.proofs.Places.{cell-local}
+use Rattle.record.specs.Reading.{below}
 use Rattle.record.specs.Valid.{InUse}
-use Rattle.record.proofs.Same.{below-same}
 use Rattle.queues.specs.Parts.{PlacesAre}
 use Rattle.queues.proofs.Parts.{places-kept}
 use Rattle.table.specs.Table.{recordAt, reading, InTable, ValidTable}
 use Rattle.table.specs.Promise.{Became, Each}
-use Rattle.table.proofs.Each.{each-ahead}
+use Rattle.table.proofs.Each.{in-some-record, each-ahead}
 use Rattle.table.proofs.Part.{record-word}
+use Rattle.table.proofs.Tables.{reading-is, valid-from}
 use Rattle.link.specs.Turn.{Turned, Sound}
 use Rattle.server.specs.Turn.{AllSound}
 
@@ -45,41 +44,17 @@ module _ (xs mid ys : List ℕ) (X : ValidTable xs) (l : length ys ≡ length xs
     taken = below (getD xs DEVICES 0) h 0;
     device = below (getD xs DEVICES 0) g (freshDevice sheet (λ c. Blank) 0);
   }
-  unfolding reading
-  says-is = (λ i. record {
-    devices = devices-same i;
-    cells = cells-same i;
-    sheet = (ap (λ (c : ℕ). sheetAt c ys SHEET) cells-same ∙ sheet-is .is) i;
-    taken = (ap (λ (n : ℕ). below n (λ d. getD (recordAt ys d) TAKEN 0) 0) devices-same ∙ below-same (getD xs DEVICES 0) _ _ 0 (λ d b. E .each d b .taken)) i;
-    device = ((λ j. below (devices-same j) (λ d. deviceOf (devices-same j) (cells-same j) (recordAt ys d)) (freshDevice sheet (λ c. Blank) 0)) ∙ below-same (getD xs DEVICES 0) _ _ (freshDevice sheet (λ c. Blank) 0) (λ d b. E .each d b .says)) i;
-  })
+  says-is = reading-is ys _ _ _ devices-same cells-same sheet-is h g (λ d b. E .each d b .taken) (λ d b. E .each d b .says)
 
   valid-is : ValidTable ys
-  valid-is =
-      let n = devices-same in
-      let c = cells-same in
-      let long = X .long in
-      record {
-        sizes = rw (n, c) (X .sizes);
-        long = omega arith;
-        server = rw c (sheet-is .valid);
-        records = λ d b. rw (n, c) (E .each d (rw n at b) .valid);
-      }
+  valid-is = let long = X .long in valid-from ys _ _ _ devices-same cells-same sheet-is (X .sizes) (omega arith) (λ d b. E .each d b .valid)
 
   kept-is : (i : ℕ) → (InTable ys i → ⊥) → getD ys i 0 ≡ getD xs i 0
-  kept-is i n = ⊎-elim (λ b. header i b ∙ K i (λ p q. n (InTable.sheet-cell p (omega (arith, cells-same))))) (λ p. ⊎-elim (λ b. inside p b) (λ q. past q) (lt-or-ge i (RECORDS + RECORD * getD xs DEVICES 0))) (lt-or-ge i RECORDS)
+  kept-is i n = in-some-record (getD xs DEVICES 0) i inside (λ out. E .kept i out ∙ K i (λ p q. n (InTable.sheet-cell p (omega (arith, cells-same)))))
     where
-      past : RECORDS + RECORD * getD xs DEVICES 0 ≤ i → getD ys i 0 ≡ getD xs i 0
-      past q = let z = X .sizes in E .kept i (λ u v. omega arith) ∙ K i (λ u v. omega arith)
-
-      inside : RECORDS ≤ i → i < RECORDS + RECORD * getD xs DEVICES 0 → getD ys i 0 ≡ getD xs i 0
-      inside p q =
+      inside : (d k : ℕ) → d < getD xs DEVICES 0 → k < RECORD → i ≡ RECORDS + RECORD * d + k → getD ys i 0 ≡ getD xs i 0
+      inside d k b r e =
           let z = X .sizes in
-          let d : ℕ = (i - RECORDS) / RECORD in
-          let k : ℕ = (i - RECORDS) % RECORD in
-          let e : i ≡ RECORDS + RECORD * d + k = omega arith in
-          let r : k < RECORD = omega arith in
-          let b : d < getD xs DEVICES 0 = omega arith in
           let free : InUse (getD xs DEVICES 0) (getD xs CELLS 0) (recordAt ys d) k → ⊥ = λ u. n (InTable.in-record d k (rw devices-same b) (rw (devices-same, cells-same) u) e) in
           rw e (sym (record-word ys d k r) ∙ E .each d b .kept k free ∙ record-word mid d k r ∙ K (RECORDS + RECORD * d + k) (λ u v. omega arith))
 

@@ -1,4 +1,4 @@
--- What the server asks of a slice whose records it turns one after the other. Assumes nothing.
+-- "for each device in rising number": what the server asks of a slice whose records it turns one after the other. Assumes nothing.
 use mathlib.Core.List.{List}
 use Prim.Native.Nat.{ℕ, _≤_, _<_}
 use lib.ListN.{length}

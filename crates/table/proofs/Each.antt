@@ -1,14 +1,22 @@
--- Records that a loop changes one after the other. Assumes nothing.
+-- Records that a loop changes one after the other, and a word of one of them. Assumes nothing.
 use mathlib.Core.Path.{_≡_, refl, _∙_, subst}
+use mathlib.Core.Logic.{⊎-elim}
 use mathlib.Core.List.{List}
-use Prim.Native.Nat.{ℕ, _+_, _*_, _≤_}
+use Prim.Native.Nat.{ℕ, _+_, _*_, _-_, _/_, _%_, _≤_, _<_}
 use native.Mathlib.Omega.{arith}
 use lib.ListN.{length}
 use Rattle.words.specs.Layout.{RECORD, RECORDS}
-use Rattle.words.proofs.Places.{below-suc}
+use Rattle.words.proofs.Places.{below-suc, lt-or-ge}
 use Rattle.table.specs.Table.{recordAt}
 use Rattle.table.specs.Promise.{Each}
 use Rattle.table.proofs.Part.{Replaced, record-same, other-record}
+
+-- A word stands in the record of one of n devices, or in none.
+pub in-some-record : {P : Type 0} (n i : ℕ) → ((d k : ℕ) → d < n → k < RECORD → i ≡ RECORDS + RECORD * d + k → P) → ((RECORDS ≤ i → i < RECORDS + RECORD * n → ⊥) → P) → P
+in-some-record n i inside outside =
+    let d : ℕ = (i - RECORDS) / RECORD in
+    let k : ℕ = (i - RECORDS) % RECORD in
+    ⊎-elim (λ l. outside (λ p q. omega arith)) (λ p. ⊎-elim (λ q. inside d k (omega arith) (omega arith) (omega arith)) (λ g. outside (λ a b. omega arith)) (lt-or-ge i (RECORDS + RECORD * n))) (lt-or-ge i RECORDS)
 
 module _ (Q : ℕ → List ℕ → List ℕ → Type 0) (xs : List ℕ) where
   pub each-none : Each Q xs xs 0

@@ -1,26 +1,29 @@
 -- A call depends on no word but those in use. Assumes nothing.
 use mathlib.Core.Path.{_≡_, refl, sym, ap, _∙_}
-use mathlib.Core.Logic.{_⊎_, ⊎-elim}
+use mathlib.Core.Logic.{⊎-elim}
 use mathlib.Core.List.{List}
 use Prim.Native.Nat.{ℕ, _+_, _*_, _≤_, _<_}
 use native.Mathlib.Omega.{arith}
 use lib.ListN.{length, getD, List·getD-eq-default}
 use Rattle.cells.specs.declared.Cell.the-variants.{Blank}
-use Rattle.protocol.specs.Machine.{Table, freshDevice}
+use Rattle.protocol.specs.Machine.{Table}
 use Rattle.sheet.specs.Sheet.{sheet}
 use Rattle.sheet.specs.declared.Answer.{Answer}
 use Rattle.sheet.proofs.OneAnswer.{meaning-one, same-answer}
-use Rattle.words.specs.Layout.{CELL, TAKEN, RECORD, DEVICES, CELLS, SHEET, RECORDS}
+use Rattle.words.specs.Layout.{TAKEN, RECORD, DEVICES, CELLS, SHEET, RECORDS}
 use Rattle.words.specs.Place.{cellPlace}
-use Rattle.words.proofs.Places.{Same, lt-or-ge, cell-local}
-use Rattle.record.specs.Reading.{below, sheetAt, deviceOf}
+use Rattle.words.proofs.Places.{lt-or-ge, cell-local}
+use Rattle.record.specs.Reading.{sheetAt, deviceOf}
 use Rattle.record.specs.Valid.{InUse}
-use Rattle.record.proofs.Same.{below-same, places-same, places-valid, in-record}
+use Rattle.record.proofs.Same.{in-record}
 use Rattle.record.proofs.Read.{in-use-back, same-device, same-valid}
+use Rattle.queues.specs.Parts.{PlacesAre}
+use Rattle.queues.proofs.Parts.{places-kept}
 use Rattle.table.specs.Table.{recordAt, reading, InTable, ValidTable, IsTable}
 use Rattle.table.specs.Promise.{Stepped}
 use Rattle.table.specs.Claims.{Agree, Only·words·in·use}
 use Rattle.table.proofs.Part.{record-length, record-word}
+use Rattle.table.proofs.Tables.{reading-is, valid-from}
 use Rattle.table.proofs.Once.{stable}
 
 module _ (xs ys : List ℕ) (A : Agree xs ys) where
@@ -29,9 +32,6 @@ module _ (xs ys : List ℕ) (A : Agree xs ys) where
 
   cells-eq : getD ys CELLS 0 ≡ getD xs CELLS 0
   cells-eq = A .words CELLS (InTable.header (omega arith))
-
-  sheet-same : Same xs ys SHEET (CELL * getD xs CELLS 0)
-  sheet-same i l h = A .words i (InTable.sheet-cell l h)
 
   -- the words in use of a record, as far as they lie in it
   record-same : (d : ℕ) → d < getD xs DEVICES 0 → (k : ℕ) → k < RECORD → InUse (getD xs DEVICES 0) (getD xs CELLS 0) (recordAt xs d) k → getD (recordAt ys d) k 0 ≡ getD (recordAt xs d) k 0
@@ -44,30 +44,19 @@ module _ (xs ys : List ℕ) (A : Agree xs ys) where
     device-same : (d : ℕ) → d < getD xs DEVICES 0 → deviceOf (getD xs DEVICES 0) (getD xs CELLS 0) (recordAt ys d) ≡ deviceOf (getD xs DEVICES 0) (getD xs CELLS 0) (recordAt xs d)
     device-same d h = same-device (getD xs DEVICES 0) (getD xs CELLS 0) (recordAt xs d) (recordAt ys d) (in-use d h) (X .records d h)
 
+    sheet-is : PlacesAre cellPlace Blank (getD xs CELLS 0) ys SHEET (sheetAt (getD xs CELLS 0) xs SHEET)
+    sheet-is = places-kept cellPlace cell-local Blank (getD xs CELLS 0) xs ys SHEET _ (λ i l h. A .words i (InTable.sheet-cell l h)) record { is = refl; valid = X .server }
+
     taken-same : (d : ℕ) → d < getD xs DEVICES 0 → getD (recordAt ys d) TAKEN 0 ≡ getD (recordAt xs d) TAKEN 0
     taken-same d h = in-use d h TAKEN (InUse.single (omega arith))
 
     pub says-same : reading ys ≡ reading xs
-    unfolding reading
-    says-same = (λ i. record {
-      devices = devices-eq i;
-      cells = cells-eq i;
-      sheet = (ap (λ (c : ℕ). sheetAt c ys SHEET) cells-eq ∙ places-same cellPlace cell-local (getD xs CELLS 0) xs ys SHEET sheet-same Blank) i;
-      taken = (ap (λ (n : ℕ). below n (λ d. getD (recordAt ys d) TAKEN 0) 0) devices-eq ∙ below-same (getD xs DEVICES 0) _ _ 0 taken-same) i;
-      device = ((λ j. below (devices-eq j) (λ d. deviceOf (devices-eq j) (cells-eq j) (recordAt ys d)) (freshDevice sheet (λ c. Blank) 0)) ∙ below-same (getD xs DEVICES 0) _ _ (freshDevice sheet (λ c. Blank) 0) device-same) i;
-    })
+    says-same = unfold reading in (reading-is ys _ _ _ devices-eq cells-eq sheet-is (λ d. getD (recordAt xs d) TAKEN 0) (λ d. deviceOf (getD xs DEVICES 0) (getD xs CELLS 0) (recordAt xs d)) taken-same device-same)
 
     valid-same : ValidTable ys
     valid-same =
-        let n = devices-eq in
-        let c = cells-eq in
         let long = A .also-long in
-        record {
-          sizes = rw (n, c) (X .sizes);
-          long = rw n long;
-          server = rw c (places-valid cellPlace cell-local (getD xs CELLS 0) xs ys SHEET sheet-same (X .server));
-          records = λ d b. let h : d < getD xs DEVICES 0 = omega arith in rw (n, c) (same-valid (getD xs DEVICES 0) (getD xs CELLS 0) (recordAt xs d) (recordAt ys d) (in-use d h) (X .records d h) (record-length ys d (omega arith)));
-        }
+        valid-from ys _ _ _ devices-eq cells-eq sheet-is (X .sizes) long (λ d h. same-valid (getD xs DEVICES 0) (getD xs CELLS 0) (recordAt xs d) (recordAt ys d) (in-use d h) (X .records d h) (record-length ys d (omega arith)))
 
   pub also-table : IsTable xs → IsTable ys
   also-table T = record { valid = valid-same (T .valid); fits = rw (says-same (T .valid)) (T .fits) }

@@ -39,6 +39,9 @@ unmoved s xs a T e = record {
   after = λ t. record { says = ap (λ (r : Result sheet). r .table) (sym e); valid = T .valid; kept = λ i n. refl; size = refl };
 }
 
+cells-is : (xs : List ℕ) → reading xs .cells ≡ getD xs CELLS 0
+cells-is xs = unfold reading in refl
+
 -- The machine's step that an operation names is the device's.
 named-at : (d : ℕ) (operation : Operation) (t : Table sheet) → step sheet (tableStep d operation) t ≡ at sheet t d (stepOf (t .cells) d operation)
 unfolding step
@@ -51,10 +54,7 @@ named-at d Receive t = refl
 named-at d Pull t = refl
 
 pub named-is : (xs : List ℕ) (d : ℕ) (operation : Operation) → step sheet (tableStep d operation) (reading xs) ≡ at sheet (reading xs) d (stepOf (getD xs CELLS 0) d operation)
-named-is xs d operation = named-at d operation (reading xs) ∙ ap (λ (c : ℕ). at sheet (reading xs) d (stepOf c d operation)) cells-is
-  where
-    cells-is : reading xs .cells ≡ getD xs CELLS 0
-    cells-is = unfold reading in refl
+named-is xs d operation = named-at d operation (reading xs) ∙ ap (λ (c : ℕ). at sheet (reading xs) d (stepOf c d operation)) (cells-is xs)
 
 -- A step of device d, where there is none: s is what `at` makes of f.
 pub no-device : (s : Step sheet) (f : Device sheet → Local sheet) (xs : List ℕ) (d : ℕ) → step sheet s (reading xs) ≡ at sheet (reading xs) d f → IsTable xs → getD xs DEVICES 0 ≤ d → Stepped (step sheet s) xs (Refused NoDevice) xs
@@ -146,10 +146,7 @@ asked-at d Confirmed t = refl
 
 module _ (xs : List ℕ) (d : ℕ) (q : Question) (T : IsTable xs) where
   asked-is : step sheet (questionStep d q) (reading xs) ≡ at sheet (reading xs) d (questionOf (getD xs CELLS 0) q)
-  asked-is = asked-at d q (reading xs) ∙ ap (λ (c : ℕ). at sheet (reading xs) d (questionOf c q)) cells-is
-    where
-      cells-is : reading xs .cells ≡ getD xs CELLS 0
-      cells-is = unfold reading in refl
+  asked-is = asked-at d q (reading xs) ∙ ap (λ (c : ℕ). at sheet (reading xs) d (questionOf c q)) (cells-is xs)
 
   pub no-device-asked : getD xs DEVICES 0 ≤ d → Stepped (step sheet (questionStep d q)) xs (Refused NoDevice) xs
   no-device-asked h = no-device (questionStep d q) (questionOf (getD xs CELLS 0) q) xs d asked-is T h

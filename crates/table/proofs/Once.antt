@@ -1,6 +1,6 @@
--- The words of a table are given by what it says, so a call has one outcome; and it depends on no word but those in use. Assumes nothing.
-use mathlib.Core.Path.{_≡_, sym, ap, _∙_}
-use mathlib.Core.Logic.{_⊎_, ⊎-elim}
+-- The words of a table are given by what it says, so a call has one outcome. Assumes nothing.
+use mathlib.Core.Path.{_≡_, refl, sym, ap, _∙_}
+use mathlib.Core.Logic.{⊎-elim}
 use mathlib.Core.List.{List, List-discrete}
 use Prim.Native.Nat.{ℕ, zero, suc, _<_}
 use native.Mathlib.Decide.{ℕ-discrete}
@@ -9,8 +9,8 @@ use lib.ListN.{length, getD}
 use lib.Seq.{ext-getD}
 use Rattle.cells.specs.declared.Cell.the-variants.{Blank}
 use Rattle.protocol.specs.declared.Refusal.{Refusal}
-use Rattle.protocol.specs.declared.Refusal.the-variants.{NoTable, OutsideAllowed}
-use Rattle.protocol.specs.Machine.{Table}
+use Rattle.protocol.specs.declared.Refusal.the-variants.{NoTable, OutsideAllowed, NoStep}
+use Rattle.protocol.specs.Machine.{Table, step}
 use Rattle.protocol.specs.Fits.{Sizes}
 use Rattle.sheet.specs.Sheet.{sheet}
 use Rattle.sheet.specs.declared.Answer.{Answer}
@@ -25,6 +25,7 @@ use Rattle.record.proofs.OneRecord.{record-words}
 use Rattle.record.proofs.Same.{in-record}
 use Rattle.table.specs.Table.{need, recordAt, reading, InTable, ValidTable, IsTable}
 use Rattle.table.specs.Promise.{Became, RefusedWith}
+use Rattle.table.specs.Asked.{Asked, no·step, start, machine·step, DoesWith}
 use Rattle.table.specs.Claims.{One·outcome, One·start}
 use Rattle.table.proofs.Part.{record-word}
 use Rattle.table.proofs.Tables.{device-at, taken-at}
@@ -83,6 +84,10 @@ became-once xs ys zs t A B = ext-getD 0 ys zs (A .size ∙ sym (B .size)) (λ i 
         A .kept i (λ u. n (table-words ys zs (A .valid) (B .valid) says i u))
         ∙ sym (B .kept i (λ u. n (sym (table-words zs ys (B .valid) (A .valid) (sym says) i u))))
 
+-- Words that became what they said are as they were.
+pub became-same : (xs ys : List ℕ) (t : Table sheet) → IsTable xs → Became xs ys t → t ≡ reading xs → ys ≡ xs
+became-same xs ys t T B e = became-once xs ys xs t B record { says = sym e; valid = T .valid; kept = λ _ _. refl; size = refl }
+
 -- Two refusals of the same number.
 pub refused-once : (r : Refusal) (xs ys zs : List ℕ) (a b : Answer) → RefusedWith r xs a ys → RefusedWith r xs b zs → (a ≡ b) × (ys ≡ zs)
 refused-once r xs ys zs a b A B = (meaning-one a b (A .number ∙ sym (B .number)), A .untouched ∙ sym (B .untouched))
@@ -103,3 +108,9 @@ pub one-start : One·start
 one-start devices cells xs ys zs a b A B = either-way (Sizes devices cells) a b ys zs
     (λ z. ⊎-elim (λ l. refused-once NoTable xs ys zs a b (A .short z l) (B .short z l)) (λ g. (meaning-one a b (A .begun z g .0 ∙ sym (B .begun z g .0)), became-once xs ys zs _ (A .begun z g .1) (B .begun z g .1))) (lt-or-ge (length xs) (need devices)))
     (λ n. refused-once OutsideAllowed xs ys zs a b (A .outside n) (B .outside n))
+
+-- What was asked has one outcome, where a start has one.
+pub does-once : (Begins : (devices cells : ℕ) (xs : List ℕ) → Answer → (ys : List ℕ) → Type 0) → (xs ys zs : List ℕ) (a b : Answer) → ((devices cells : ℕ) → Begins devices cells xs a ys → Begins devices cells xs b zs → (a ≡ b) × (ys ≡ zs)) → (k : Asked) → DoesWith Begins k xs a ys → DoesWith Begins k xs b zs → (a ≡ b) × (ys ≡ zs)
+does-once Begins xs ys zs a b one no·step A B = refused-once NoStep xs ys zs a b A B
+does-once Begins xs ys zs a b one (start devices cells) A B = one devices cells A B
+does-once Begins xs ys zs a b one (machine·step m) A B = one-outcome (step sheet m) xs ys zs a b A B

@@ -9,16 +9,18 @@ use lib.Dec.{eqb}
 use lib.ListN.{length, getD}
 use borrow.Author.Tests.{lt-ltb, le-ltb, eq-eqb, ne-eqb, eqb-true, eqb-false}
 use Rattle.cells.specs.declared.Cell.the-variants.{Blank}
-use Rattle.protocol.specs.Machine.{put, freshDevice}
+use Rattle.protocol.specs.Machine.{Device, put, freshDevice}
 use Rattle.sheet.specs.Sheet.{sheet}
-use Rattle.words.specs.Layout.{CELL, TAKEN, RECORD, DEVICES, CELLS, SHEET, RECORDS}
+use Rattle.words.specs.Layout.{TAKEN, RECORD, DEVICES, CELLS, SHEET, RECORDS}
 use Rattle.words.specs.Place.{cellPlace}
-use Rattle.words.proofs.Places.{Same, lt-or-ge, cell-local}
+use Rattle.words.proofs.Places.{lt-or-ge, cell-local}
 use Rattle.record.specs.Reading.{below, sheetAt, deviceOf}
 use Rattle.record.specs.Valid.{InUse, ValidRecord}
-use Rattle.record.proofs.Same.{places-same, places-valid}
+use Rattle.queues.specs.Parts.{PlacesAre}
+use Rattle.queues.proofs.Parts.{places-kept}
 use Rattle.table.specs.Table.{recordAt, reading, InTable, ValidTable}
 use Rattle.table.proofs.Part.{Replaced, record-word, other-record}
+use Rattle.table.proofs.Tables.{reading-is, valid-from}
 
 pub eq-or-ne : (a b : ℕ) → (a ≡ b) ⊎ (a ≡ b → ⊥)
 eq-or-ne a b = go (eqb a b) refl
@@ -47,8 +49,11 @@ module _ (xs ys rs : List ℕ) (d : ℕ) (X : ValidTable xs) (h : d < getD xs DE
   cells-same : getD ys CELLS 0 ≡ getD xs CELLS 0
   cells-same = R .out CELLS (λ p q. omega arith)
 
-  sheet-same : Same xs ys SHEET (CELL * getD xs CELLS 0)
-  sheet-same i p q = let s = X .sizes in R .out i (λ a b. omega arith)
+  sheet-is : PlacesAre cellPlace Blank (getD xs CELLS 0) ys SHEET (sheetAt (getD xs CELLS 0) xs SHEET)
+  sheet-is = let s = X .sizes in places-kept cellPlace cell-local Blank (getD xs CELLS 0) xs ys SHEET _ (λ i p q. R .out i (λ a b. omega arith)) record { is = refl; valid = X .server }
+
+  abbrev device : List ℕ → Device sheet
+  device = deviceOf (getD xs DEVICES 0) (getD xs CELLS 0)
 
   in-table : (e : ℕ) → e < getD xs DEVICES 0 → RECORDS + RECORD * e + RECORD ≤ length xs
   in-table e l = let n = X .long in omega arith
@@ -66,29 +71,19 @@ module _ (xs ys rs : List ℕ) (d : ℕ) (X : ValidTable xs) (h : d < getD xs DE
     taken = put d (getD rs TAKEN 0) (reading xs .taken);
     device = put d (deviceOf (getD xs DEVICES 0) (getD xs CELLS 0) rs) (reading xs .device);
   }
-  unfolding reading
-  replaced-says = (λ i. record {
-    devices = devices-same i;
-    cells = cells-same i;
-    sheet = (ap (λ (c : ℕ). sheetAt c ys SHEET) cells-same ∙ places-same cellPlace cell-local (getD xs CELLS 0) xs ys SHEET sheet-same Blank) i;
-    taken = (ap (λ (n : ℕ). below n (λ e. getD (recordAt ys e) TAKEN 0) 0) devices-same
-        ∙ put-below (getD xs DEVICES 0) d (λ e. getD (recordAt xs e) TAKEN 0) (λ e. getD (recordAt ys e) TAKEN 0) (getD rs TAKEN 0) 0 h (ap (λ (l : List ℕ). getD l TAKEN 0) (R .here)) (λ e l n. ap (λ (l : List ℕ). getD l TAKEN 0) (there e l n))) i;
-    device = ((λ j. below (devices-same j) (λ e. deviceOf (devices-same j) (cells-same j) (recordAt ys e)) (freshDevice sheet (λ c. Blank) 0))
-        ∙ put-below (getD xs DEVICES 0) d (λ e. deviceOf (getD xs DEVICES 0) (getD xs CELLS 0) (recordAt xs e)) (λ e. deviceOf (getD xs DEVICES 0) (getD xs CELLS 0) (recordAt ys e)) (deviceOf (getD xs DEVICES 0) (getD xs CELLS 0) rs) (freshDevice sheet (λ c. Blank) 0) h (ap (deviceOf (getD xs DEVICES 0) (getD xs CELLS 0)) (R .here)) (λ e l n. ap (deviceOf (getD xs DEVICES 0) (getD xs CELLS 0)) (there e l n))) i;
-  })
+  replaced-says = unfold reading in (reading-is ys _ _ _ devices-same cells-same sheet-is (λ e. getD (recordAt ys e) TAKEN 0) (λ e. device (recordAt ys e)) (λ e l. refl) (λ e l. refl) ∙ (λ i. record {
+    devices = getD xs DEVICES 0;
+    cells = getD xs CELLS 0;
+    sheet = sheetAt (getD xs CELLS 0) xs SHEET;
+    taken = put-below (getD xs DEVICES 0) d (λ e. getD (recordAt xs e) TAKEN 0) (λ e. getD (recordAt ys e) TAKEN 0) (getD rs TAKEN 0) 0 h (ap (λ (l : List ℕ). getD l TAKEN 0) (R .here)) (λ e l n. ap (λ (l : List ℕ). getD l TAKEN 0) (there e l n)) i;
+    device = put-below (getD xs DEVICES 0) d (λ e. device (recordAt xs e)) (λ e. device (recordAt ys e)) (device rs) (freshDevice sheet (λ c. Blank) 0) h (ap device (R .here)) (λ e l n. ap device (there e l n)) i;
+  }))
 
   pub replaced-valid : ValidRecord (getD xs DEVICES 0) (getD xs CELLS 0) rs → ValidTable ys
   replaced-valid ok =
-      let n = devices-same in
-      let c = cells-same in
       let l = R .same-length in
       let long = X .long in
-      record {
-        sizes = rw (n, c) (X .sizes);
-        long = omega arith;
-        server = rw c (places-valid cellPlace cell-local (getD xs CELLS 0) xs ys SHEET sheet-same (X .server));
-        records = λ e b. let b2 : e < getD xs DEVICES 0 = omega arith in rw (n, c) (⊎-elim (λ q. rw (here-at e q) ok) (λ ne. rw (there e b2 ne) (X .records e b2)) (eq-or-ne e d));
-      }
+      valid-from ys _ _ _ devices-same cells-same sheet-is (X .sizes) (omega arith) (λ e b. ⊎-elim (λ q. rw (here-at e q) ok) (λ ne. rw (there e b ne) (X .records e b)) (eq-or-ne e d))
 
   pub replaced-kept : ((k : ℕ) → (InUse (getD xs DEVICES 0) (getD xs CELLS 0) rs k → ⊥) → getD rs k 0 ≡ getD (recordAt xs d) k 0) → (i : ℕ) → (InTable ys i → ⊥) → getD ys i 0 ≡ getD xs i 0
   replaced-kept K i n = ⊎-elim (λ l. R .out i (λ p q. omega arith)) (λ g. ⊎-elim (λ b. inside g b) (λ p. R .out i (λ u v. omega arith)) (lt-or-ge i (RECORDS + RECORD * d + RECORD))) (lt-or-ge i (RECORDS + RECORD * d))

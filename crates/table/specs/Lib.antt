@@ -1,3 +1,4 @@
 pub mod Table
 pub mod Promise
+pub mod Asked
 pub mod Claims

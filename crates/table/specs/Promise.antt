@@ -1,4 +1,5 @@
--- What a call on the lent table promises: its answer and every word afterwards. Assumes nothing.
+-- "Each public function's promise determines its answer and the table and buffers afterwards, on every input, refused or not": what a call on the
+-- lent table promises. Assumes nothing.
 use mathlib.Core.Path.{_≡_}
 use mathlib.Core.List.{List}
 use Prim.Native.Nat.{ℕ, _*_, _≤_, _<_}

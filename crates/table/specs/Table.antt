@@ -1,4 +1,4 @@
--- What the words of the lent table say, which of them are in use, and which contents are a table. Assumes nothing.
+-- "one lent table that holds them all"; "Contents are a table when ..": what its words say, which are in use, and which contents are one. Assumes nothing.
 use mathlib.Core.Path.{_≡_}
 use mathlib.Core.List.{List}
 use Prim.Native.Nat.{ℕ, _+_, _*_, _≤_, _<_}

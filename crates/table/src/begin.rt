@@ -1,38 +1,19 @@
 // start: the table of a number of devices and of cells, at first.
-ghost use Prim.Native.Nat.{_+_, _*_, _≤_, _<_};
+ghost use Prim.Native.Nat.{_+_, _*_, _≤_};
 ghost use lib.ListN.{length};
 ghost use Rattle.cells.specs.declared.Cell.the-variants.{Blank};
-ghost use Rattle.protocol.specs.Fits.{Sizes};
 ghost use Rattle.words.specs.Layout.{MOST·CELLS, MOST·DEVICES, RECORD, RECORDS};
-ghost use Rattle.words.specs.Place.{Decides};
 ghost use Rattle.table.specs.Promise.{Started, Begins};
+use crate::check::are_sizes;
 use protocol::Refusal;
 use record::begin::begin;
 use sheet::Answer;
 use words::layout::CELLS;
 use words::layout::DEVICES;
-use words::layout::MOST_CELLS;
-use words::layout::MOST_DEVICES;
 use words::layout::RECORD;
 use words::layout::RECORDS;
 use words::layout::SHEET;
 use words::run::clear_cells;
-
-// Whether a table may have so many devices and cells.
-pub fn are_sizes(devices: u64, cells: u64) -> bool
-    ensures { λ b. ⌜ Decides b (Sizes devices cells) ⌝ }
-{
-    if devices < 1 {
-        return false;
-    }
-    if devices > MOST_DEVICES as u64 {
-        return false;
-    }
-    if cells < 1 {
-        return false;
-    }
-    cells <= MOST_CELLS as u64
-}
 
 // Begins the records of n devices.
 fn begin_records(t: &mut [u64], n: usize, cells: usize)

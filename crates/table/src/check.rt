@@ -1,6 +1,7 @@
 // Whether lent contents are a table.
 ghost use Prim.Native.Nat.{ℕ, _+_, _*_, _≤_, _<_};
 ghost use lib.ListN.{length};
+ghost use Rattle.protocol.specs.Fits.{Sizes};
 ghost use Rattle.words.specs.Layout.{MOST·CELLS, MOST·DEVICES, RECORD, RECORDS};
 ghost use Rattle.words.specs.Place.{Decides};
 ghost use Rattle.record.specs.Valid.{IsRecord};
@@ -14,6 +15,22 @@ use words::layout::MOST_DEVICES;
 use words::layout::RECORD;
 use words::layout::RECORDS;
 use words::layout::SHEET;
+
+// Whether a table may have so many devices and cells.
+pub fn are_sizes(devices: u64, cells: u64) -> bool
+    ensures { λ b. ⌜ Decides b (Sizes devices cells) ⌝ }
+{
+    if devices < 1 {
+        return false;
+    }
+    if devices > MOST_DEVICES as u64 {
+        return false;
+    }
+    if cells < 1 {
+        return false;
+    }
+    cells <= MOST_CELLS as u64
+}
 
 // Whether the first n records are a table's of so many devices and cells.
 fn are_records(t: &[u64], n: usize, devices: usize, cells: usize) -> bool
@@ -38,16 +55,7 @@ pub fn is_table(t: &[u64]) -> bool
     if t.len() < RECORDS {
         return false;
     }
-    if t[DEVICES] < 1 {
-        return false;
-    }
-    if t[DEVICES] > MOST_DEVICES as u64 {
-        return false;
-    }
-    if t[CELLS] < 1 {
-        return false;
-    }
-    if t[CELLS] > MOST_CELLS as u64 {
+    if !are_sizes(t[DEVICES], t[CELLS]) {
         return false;
     }
     let devices = t[DEVICES] as usize;

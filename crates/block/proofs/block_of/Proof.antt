@@ -61,10 +61,10 @@ use Rattle.block.proofs.Entry as E
 use Rattle.block.proofs.Entry.Laws as E′
 use Rattle.sheet.proofs.Answer as N
 use Rattle.sheet.proofs.Answer.Laws as N′
-use Rattle.block.proofs.block as blk
-use Rattle.block.proofs.block.Symbol as blk-def
+use Rattle.block.proofs.block as the-block
+use Rattle.block.proofs.block.Symbol as block-def
 use Rattle.block.proofs.block.Symbol.{name as #block·block}
-use Rattle.block.proofs.block.Met as blk-thm
+use Rattle.block.proofs.block.Met as block-thm
 use Rattle.block.proofs.block_of.Key.{name as #block·block-of}
 use Rattle.block.proofs.block_of as of
 use Rattle.block.proofs.block_of.Statement as stated
@@ -81,7 +81,7 @@ evals = LL.vals E.the-type E′.the-laws
 
 -- the contract that the proof cites
 abbrev Block : {M : Type 1} (𝓤 : URA M) (H : Heap 𝓤) (A : Atoms 𝓤) (mem : Memory → SProp 𝓤) (run : Routine → Fun 𝓤) → Contract 𝓤
-Block 𝓤 H A mem run = tripleOf 𝓤 H A blk.signature (blk.spec 𝓤 H A mem run)
+Block 𝓤 H A mem run = tripleOf 𝓤 H A the-block.signature (the-block.spec 𝓤 H A mem run)
 
 module _ {M : Type 1} (𝓤 : URA M) (H : Heap 𝓤) (A : Atoms 𝓤) (W : Given 𝓤 H A) (mem : Memory → SProp 𝓤) (run : Routine → Fun 𝓤)
     (κ : Lft) (q : Share) (b o : ℕ) (γ : GName) (t₀ : List ℕ) (d : ℕ) (d-fits : d < 2 ^ 64) (es : List Entry) (k : ℕ) (k-fits : k < 2 ^ 64) (are : Is Four es (array-vals evals es)) where
@@ -117,18 +117,18 @@ module _ {M : Type 1} (𝓤 : URA M) (H : Heap 𝓤) (A : Atoms 𝓤) (W : Given
   abbrev Post : Val → SProp 𝓤
   Post = walkOf 𝓤 H A of.ended stayed (of.clauses 𝓤 H A mem run) .post (((κ, tt), (q, tt), tt, a, at), tt)
 
-  abbrev OwnT : Fml
-  OwnT = MutSlice (named 0) κ u64 .own x (v₁ ∷ [])
+  abbrev OwnTable : Fml
+  OwnTable = MutSlice (named 0) κ u64 .own x (v₁ ∷ [])
 
-  abbrev OwnU : ℕ → GName → ℕ → Fml
-  OwnU ν γ₂ l = ShrSlice (named 1) (ν ∷ []) E.the-row .own (y γ₂ l) (sliceVal (l, 0) k ∷ [])
+  abbrev OwnUpdates : ℕ → GName → ℕ → Fml
+  OwnUpdates ν γ₂ l = ShrSlice (named 1) (ν ∷ []) E.the-row .own (y γ₂ l) (sliceVal (l, 0) k ∷ [])
 
   abbrev to-block : ℕ → GName → ℕ → Block 𝓤 H A mem run .Ghost
   to-block ν γ₂ l = (((κ, (ν ∷ [], tt)), (q, (fullShare, tt)), tt, (x, (d, (y γ₂ l, tt))), (v₁ ∷ [], (vint w64 d ∷ [], (sliceVal (l, 0) k ∷ [], tt)))), tt)
 
-  goes-block : (ν : ℕ) (γ₂ : GName) (l : ℕ) → ent 𝓤 (sep 𝓤 (A .lft κ q) (sep 𝓤 (A .lft (ν ∷ []) fullShare) (sem 𝓤 H A (fsep OwnT (OwnU ν γ₂ l))))) (Block 𝓤 H A mem run .pre (to-block ν γ₂ l))
+  goes-block : (ν : ℕ) (γ₂ : GName) (l : ℕ) → ent 𝓤 (sep 𝓤 (A .lft κ q) (sep 𝓤 (A .lft (ν ∷ []) fullShare) (sem 𝓤 H A (fsep OwnTable (OwnUpdates ν γ₂ l))))) (Block 𝓤 H A mem run .pre (to-block ν γ₂ l))
   goes-block ν γ₂ l =
-      qed W (‵ (flft κ q) ∷ ‵ (flft (ν ∷ []) fullShare) ∷ ‵ (fsep OwnT (OwnU ν γ₂ l)) ∷ []) ∵
+      qed W (‵ (flft κ q) ∷ ‵ (flft (ν ∷ []) fullShare) ∷ ‵ (fsep OwnTable (OwnUpdates ν γ₂ l)) ∷ []) ∵
       nothing ! $ move ! (2 ∷ 0 ∷ []) $ join ! $ move ! (1 ∷ 0 ∷ []) $ join ! $ move ! (1 ∷ []) $ fsplit ! $ nothing ! $ move ! (2 ∷ 0 ∷ []) $ fjoin ! $ owned ! u64 (Is u64) (uint-makes 𝓤 H A W w64) d _ (refl, d-fits) $ fjoin ! $ move ! (1 ∷ 0 ∷ []) $ fjoin ! $ move ! (1 ∷ 0 ∷ []) $ join ! $ frame ! $ done !
 
   exits : (zs : List ℕ) (r : Answer) (u : Val) → length zs ≡ length t₀ → Stepped (step sheet (machine.block d (updatesIn us))) t₀ r zs
@@ -167,12 +167,12 @@ module _ {M : Type 1} (𝓤 : URA M) (H : Heap 𝓤) (A : Atoms 𝓤) (W : Given
         use1 W (later (some (λ (γ₂ : GName). ‵ (ShrSlice (named 1) (ν ∷ []) E.the-row .own (y γ₂ l₅) (sliceVal (l₅, 0) (length us) ∷ [])) ⊛ ‵ (flent (ν ∷ []) (arr-parts (shares E.the-row) (length us) .part fullShare us l₅ 0)))))
         (lends-shr-slice 𝓤 H A W E.the-row (named 1) (ν ∷ []) fullShare us l₅ 0 room₂) $ await ! tt $ pick ! (λ γ₂. split ! $
         rewrite ! 0 (λ (m : ℕ). ‵ (ShrSlice (named 1) (ν ∷ []) E.the-row .own (y γ₂ l₅) (sliceVal (l₅, 0) m ∷ []))) k-is refl $
-        -- [OwnU; lent; ν; the others; OwnT; _8 at 5; _7 7; _6 9; _5 11; (_4's right) 13; _3 14; _2 16; _1 18; _0 20; the token at 22]
+        -- [OwnUpdates; lent; ν; the others; OwnTable; _8 at 5; _7 7; _6 9; _5 11; (_4's right) 13; _3 14; _2 16; _1 18; _0 20; the token at 22]
         move ! (24 ∷ []) $ split ! $ move ! (6 ∷ 2 ∷ []) $ fjoin ! $ move ! (1 ∷ 4 ∷ 0 ∷ []) $ use3 W (raw (Block 𝓤 H A mem run .pre (to-block ν γ₂ l₅))) (goes-block ν γ₂ l₅) $
         -- [pre; true; lent; the others; _8 at 4; _7 6; _6 8; …]
         calls-at ! fm (Block 𝓤 H A mem run) known (to-block ν γ₂ l₅) (and-then ! (load ! (from ! (stop !)) (look ! 8 refl)) (and-then ! (load ! (from ! (stop !)) (look ! 17 refl)) (and-then ! (load ! (from ! (stop !)) (look ! 4 refl)) (no-more !)))) (λ u.
-        use1 W (later (some (λ (r : Answer). ((‵ (flft κ q) ⊛ ‵ (flft (ν ∷ []) fullShare) ⊛ ‵ ftrue) ⊛ ‵ (N.the-row .own r (u ∷ []))) ⊛ raw (ensured 𝓤 H A blk.ended (blk.clauses 𝓤 H A mem run) (κ, (ν ∷ [], tt)) (x, (d, (y γ₂ l₅, tt))) tt r)))) (id⊢ 𝓤 _) $ await ! tt $ pick ! (λ r.
-        split ! $ move ! (1 ∷ []) $ use1 W (some (λ (zs : List ℕ × (Unit {0} × (Unit {0} × Unit {0}))). ‵ (lasts blk.ended (κ, (ν ∷ [], tt)) (x, (d, (y γ₂ l₅, tt))) zs) ⊛ raw (fact 𝓤 (Stepped (step sheet (machine.block d (updatesIn us))) t₀ r (zs .0))))) (id⊢ 𝓤 _) $ pick ! (λ zs.
+        use1 W (later (some (λ (r : Answer). ((‵ (flft κ q) ⊛ ‵ (flft (ν ∷ []) fullShare) ⊛ ‵ ftrue) ⊛ ‵ (N.the-row .own r (u ∷ []))) ⊛ raw (ensured 𝓤 H A the-block.ended (the-block.clauses 𝓤 H A mem run) (κ, (ν ∷ [], tt)) (x, (d, (y γ₂ l₅, tt))) tt r)))) (id⊢ 𝓤 _) $ await ! tt $ pick ! (λ r.
+        split ! $ move ! (1 ∷ []) $ use1 W (some (λ (zs : List ℕ × (Unit {0} × (Unit {0} × Unit {0}))). ‵ (lasts the-block.ended (κ, (ν ∷ [], tt)) (x, (d, (y γ₂ l₅, tt))) zs) ⊛ raw (fact 𝓤 (Stepped (step sheet (machine.block d (updatesIn us))) t₀ r (zs .0))))) (id⊢ 𝓤 _) $ pick ! (λ zs.
         split ! $ move ! (1 ∷ []) $ heard ! (Stepped (step sheet (machine.block d (updatesIn us))) t₀ r (zs .0)) (λ f. fsplit ! $ fsplit ! $ move ! (1 ∷ []) $ feqL ! (λ len.
         -- [finally; …; the tokens and the result; true; lent; the others; _8; …]: the lifetime is ended, and the elements are back
         move ! (2 ∷ []) $ split ! $ split ! $ move ! (1 ∷ []) $ split ! $ lft-end ! tt $ move ! (0 ∷ 7 ∷ []) $ lent-back ! tt $ fsplit ! $ drop ! $
@@ -216,4 +216,4 @@ block-of-spec 𝓤 H 𝓜 𝓖 𝓡 =
     entered 𝓤 H (tripleOf 𝓤 H (𝓖 .A) of.signature (of.spec 𝓤 H (𝓖 .A) (𝓜 .mem) (𝓡 .run)))
     (tables 𝓤 H 𝓜 𝓡 code.env .C) (tables 𝓤 H 𝓜 𝓡 code.env .Λ) #block·block-of code.function (code.unfolded 𝓤 H 𝓜 𝓡)
     (of-meets 𝓤 H (𝓖 .A) (givenOf 𝓤 H 𝓜 𝓖) (𝓜 .mem) (𝓡 .run) (tablesOf 𝓤 H 𝓜 (tables 𝓤 H 𝓜 𝓡 code.env))
-    (cited 𝓤 H (Block 𝓤 H (𝓖 .A) (𝓜 .mem) (𝓡 .run)) 𝓜 𝓡 code.env #block·block blk-def.routine code.calls-block·block (blk-thm.met 𝓤 H 𝓜 𝓖 𝓡)))
+    (cited 𝓤 H (Block 𝓤 H (𝓖 .A) (𝓜 .mem) (𝓡 .run)) 𝓜 𝓡 code.env #block·block block-def.routine code.calls-block·block (block-thm.met 𝓤 H 𝓜 𝓖 𝓡)))

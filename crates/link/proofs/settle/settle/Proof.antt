@@ -28,10 +28,17 @@ take-number-requires : tie.Need-take-number-requires
 take-number-requires c κs = search needs
 
 drop-waiting-requires : tie.Need-drop-waiting-requires
-drop-waiting-requires c κs = has-waiting _ _ _ (c .before .before .before .before .before .before .before .before .before .before .before .args .count) (c .before .before .before .before .before .before .before .before .before .before .before .args .reaches) (c .before .before .before .before .before .before .before .before .before .before .before .args .crash) _ _ (c .before .before .before .before .before .before .before .before .before .before .before .pre) _ (c .before .before .before .before .before .before .going .ensures) _ (omega (arith, c .before .before .before .before .before .before .before .before .before .before .before .pre .sound .valid .size, c .before .before .before .take-number .kept .0)) (c .before .before .before .take-number .ensures)
+drop-waiting-requires c κs =
+    let a = c .before .before .before .before .before .before .before .before .before .before .before in
+    let number = c .before .before .before .take-number in
+    has-waiting _ _ _ (a .args .count) (a .args .reaches) (a .args .crash) _ _ (a .pre) _ (c .before .before .before .before .before .before .going .ensures) _ (omega (arith, a .pre .sound .valid .size, number .kept .0)) (number .ensures)
 
 send-segment-requires : tie.Need-send-segment-requires
-send-segment-requires c κs = deliverable _ _ _ (c .before .before .before .before .before .before .before .before .before .before .before .before .before .before .before .args .count) (c .before .before .before .before .before .before .before .before .before .before .before .before .before .before .before .args .reaches) (c .before .before .before .before .before .before .before .before .before .before .before .before .before .before .before .args .crash) _ _ (c .before .before .before .before .before .before .before .before .before .before .before .before .before .before .before .pre) _ (c .before .before .before .before .before .before .before .before .before .before .going .ensures) _ (omega (arith, c .before .before .before .before .before .before .before .before .before .before .before .before .before .before .before .pre .sound .valid .size, c .before .before .before .before .before .before .before .take-number .kept .0)) (c .before .before .before .before .before .before .before .take-number .ensures) _ (omega (arith, c .before .before .before .before .before .before .before .before .before .before .before .before .before .before .before .pre .sound .valid .size, c .before .before .before .before .before .before .before .take-number .kept .0, c .before .before .before .drop-waiting .kept .0)) (c .before .before .before .drop-waiting .ensures)
+send-segment-requires c κs =
+    let a = c .before .before .before .before .before .before .before .before .before .before .before .before .before .before .before in
+    let number = c .before .before .before .before .before .before .before .take-number in
+    let rounds = c .before .before .before .drop-waiting in
+    deliverable _ _ _ (a .args .count) (a .args .reaches) (a .args .crash) _ _ (a .pre) _ (c .before .before .before .before .before .before .before .before .before .before .going .ensures) _ (omega (arith, a .pre .sound .valid .size, number .kept .0)) (number .ensures) _ (omega (arith, a .pre .sound .valid .size, number .kept .0, rounds .kept .0)) (rounds .ensures)
 
 hang-up-requires : tie.Need-hang-up-requires
 hang-up-requires c κs = search needs
@@ -40,7 +47,17 @@ same-length : tie.Need-same-length
 same-length c = search needs
 
 returns : tie.Need-returns
-returns c = settled-so _ _ _ (c .before .before .before .before .before .before .before .before .before .before .before .before .before .before .before .before .before .before .before .before .before .before .args .count) (c .before .before .before .before .before .before .before .before .before .before .before .before .before .before .before .before .before .before .before .before .before .before .args .reaches) (c .before .before .before .before .before .before .before .before .before .before .before .before .before .before .before .before .before .before .before .before .before .before .args .crash) _ _ (c .before .before .before .before .before .before .before .before .before .before .before .before .before .before .before .before .before .before .before .before .before .before .pre) _ (c .before .before .before .before .before .before .before .before .before .before .before .before .before .before .before .before .before .going .ensures) _ (omega (arith, c .before .before .before .before .before .before .before .before .before .before .before .before .before .before .before .before .before .before .before .before .before .before .pre .sound .valid .size, c .before .before .before .before .before .before .before .before .before .before .before .before .before .before .take-number .kept .0)) (c .before .before .before .before .before .before .before .before .before .before .before .before .before .before .take-number .ensures) _ (omega (arith, c .before .before .before .before .before .before .before .before .before .before .before .before .before .before .before .before .before .before .before .before .before .before .pre .sound .valid .size, c .before .before .before .before .before .before .before .before .before .before .before .before .before .before .take-number .kept .0, c .before .before .before .before .before .before .before .before .before .before .drop-waiting .kept .0)) (c .before .before .before .before .before .before .before .before .before .before .drop-waiting .ensures) _ _ (c .before .before .before .before .before .before .send-segment .ensures) (c .before .before .hang-up .ensures) (omega (arith, c .before .before .before .before .before .before .before .before .before .before .before .before .before .before .before .before .before .before .before .before .before .before .pre .sound .valid .size, c .before .before .before .before .before .before .before .before .before .before .before .before .before .before .take-number .kept .0, c .before .before .before .before .before .before .before .before .before .before .drop-waiting .kept .0, c .before .before .before .before .before .before .send-segment .kept .0, c .before .before .hang-up .kept .0))
+returns c =
+    let a = c .before .before .before .before .before .before .before .before .before .before .before .before .before .before .before .before .before .before .before .before .before .before in
+    let number = c .before .before .before .before .before .before .before .before .before .before .before .before .before .before .take-number in
+    let rounds = c .before .before .before .before .before .before .before .before .before .before .drop-waiting in
+    let segment = c .before .before .before .before .before .before .send-segment in
+    let end = c .before .before .hang-up in
+    let size = a .pre .sound .valid .size in
+    settled-so _ _ _ (a .args .count) (a .args .reaches) (a .args .crash) _ _ (a .pre) _ (c .before .before .before .before .before .before .before .before .before .before .before .before .before .before .before .before .before .going .ensures)
+    _ (omega (arith, size, number .kept .0)) (number .ensures)
+    _ (omega (arith, size, number .kept .0, rounds .kept .0)) (rounds .ensures)
+    _ _ (segment .ensures) (end .ensures) (omega (arith, size, number .kept .0, rounds .kept .0, segment .kept .0, end .kept .0))
 
 pub settle-spec : {M : Type 1} → statement M
 settle-spec =

@@ -27,13 +27,20 @@ slice-aggregate-settle-all : tie.Need-slice-aggregate-settle-all
 slice-aggregate-settle-all c = search needs
 
 settle-all-requires : tie.Need-settle-all-requires
-settle-all-requires c κs = (all-sound _ _ _ _ (c .before .before .before .before .before .before .before .before .before .before .before .before .before .before .pre) _ _ (c .before .before .before .before .before .before .before .before .before .gather .ensures) _ (c .before .before .before .before .apply-changes-from .kept .0) (c .before .before .before .before .apply-changes-from .ensures), segment-item _ _ _ _ (c .before .before .before .before .before .before .before .before .before .before .before .before .before .before .pre) _ _ (c .before .before .before .before .before .before .before .before .before .gather .ensures), c .before .before .before .before .before .before .before .before .before .gather .ensures .kind)
+settle-all-requires c κs =
+    let ready = c .before .before .before .before .before .before .before .before .before .before .before .before .before .before .pre in
+    let segment = c .before .before .before .before .before .before .before .before .before .gather .ensures in
+    let applied = c .before .before .before .before .apply-changes-from in
+    (all-sound _ _ _ _ ready _ _ segment _ (applied .kept .0) (applied .ensures), segment-item _ _ _ _ ready _ _ segment, segment .kind)
 
 same-length-2 : tie.Need-same-length-2
 same-length-2 c = search needs
 
 returns-2 : tie.Need-returns-2
-returns-2 c = took-some _ _ _ _ (c .before .before .before .before .before .before .before .before .before .before .before .before .before .before .before .before .before .pre) _ _ (c .before .before .before .before .before .before .before .before .before .before .before .before .gather .ensures) _ (c .before .before .before .before .before .before .before .apply-changes-from .kept .0) (c .before .before .before .before .before .before .before .apply-changes-from .ensures) _ _ _ (c .before .before .settle-all .kept .0) (c .before .before .settle-all .ensures) (c .before .before .before .before .before .before .before .before .before .before .if1 .left)
+returns-2 c =
+    let applied = c .before .before .before .before .before .before .before .apply-changes-from in
+    let settled = c .before .before .settle-all in
+    took-some _ _ _ _ (c .before .before .before .before .before .before .before .before .before .before .before .before .before .before .before .before .before .pre) _ _ (c .before .before .before .before .before .before .before .before .before .before .before .before .gather .ensures) _ (applied .kept .0) (applied .ensures) _ _ _ (settled .kept .0) (settled .ensures) (c .before .before .before .before .before .before .before .before .before .before .if1 .left)
 
 pub take-rounds-spec : {M : Type 1} → statement M
 take-rounds-spec =

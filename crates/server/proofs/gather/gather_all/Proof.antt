@@ -62,7 +62,8 @@ gather-one-requires : tie.Need-gather-one-requires Inv-loop μ-loop
 gather-one-requires c κs =
     let T = c .before .before .before .before .before .before .before .before .pre .0 in
     let l = c .before .before .before .before .loop in
-    (rw (part-is _ _) (part-ready _ _ _ T (l .d) (c .before .before .before .loop-test .taken) _ (l .inv .3 .item) (l .inv .3 .valid)), few _ _ _ T (l .d) (c .before .before .before .loop-test .taken))
+    let d = few _ _ _ T (l .d) (c .before .before .before .loop-test .taken) in
+    (rw (part-is _ _) (part-ready _ _ _ T (l .d) (c .before .before .before .loop-test .taken) _ (l .inv .3 .item) (l .inv .3 .valid)), omega arith)
 
 add-moved : tie.Need-add-moved Inv-loop μ-loop
 add-moved c =

@@ -9,8 +9,6 @@ use Rattle.words.proofs.Places.{below-suc}
 use Rattle.words.proofs.Tests.{says-true, says-false}
 use Rattle.record.specs.Valid.{IsRecord}
 use Rattle.table.specs.Table.{recordAt}
-use Rattle.table.proofs.Part.{part-is}
-use native.Mathlib.Omega.{arith}
 use Rattle.table.proofs.check.are_records.Statement.{statement}
 use Rattle.table.proofs.check.are_records.Tie as tie
 

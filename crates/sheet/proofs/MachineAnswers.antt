@@ -1,4 +1,4 @@
--- The machine never refuses a step as the program does: 1, 2, 11, 12 and 13 are not its own. Assumes nothing.
+-- The machine refuses no step by 1, 2, 11, 12 or 13: those are the calls' and the step program's own. Assumes nothing.
 use mathlib.Core.Path.{_≡_, refl}
 use mathlib.Core.Bool.{Bool, true, false, not, _&&_}
 use mathlib.Core.List.{List, [], _∷_}

@@ -1,9 +1,9 @@
--- `table::begin::are_sizes` meets its contract: each test is one of the bounds.
+-- `table::check::are_sizes` meets its contract: each test is one of the bounds.
 -- Assumes nothing.
 use Rattle.words.proofs.Tests.{says-false, decides-le}
 use native.Mathlib.Omega.{arith}
-use Rattle.table.proofs.begin.are_sizes.Statement.{statement}
-use Rattle.table.proofs.begin.are_sizes.Tie as tie
+use Rattle.table.proofs.check.are_sizes.Statement.{statement}
+use Rattle.table.proofs.check.are_sizes.Tie as tie
 
 returns : tie.Need-returns
 returns c = says-false (λ s. omega arith)

@@ -1,12 +1,12 @@
--- `link::gather::share` meets its contract: by the connection, and then by what waits.
+-- `link::waiting::share` meets its contract: by the connection, and then by what waits.
 -- Assumes nothing.
 use Rattle.link.proofs.Gathers.{no-share, some-share}
 use native.Mathlib.Omega.{arith}
-use Rattle.link.proofs.gather.share.Statement.{statement}
-use Rattle.link.proofs.gather.share.Tie as tie
+use Rattle.link.proofs.waiting.share.Statement.{statement}
+use Rattle.link.proofs.waiting.share.Tie as tie
 
 returns : tie.Need-returns
-returns c = no-share _ _ _ (c .if1 .taken)
+returns c = no-share (c .before .args .count) (c .before .args .waiting) (c .before .args .connection) (omega arith)
 
 returns-2 : tie.Need-returns-2
 returns-2 c = some-share _ _ _ _ (c .before .before .pre) (c .before .if1 .left) (omega arith)
