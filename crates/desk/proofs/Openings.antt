@@ -24,7 +24,7 @@ use Rattle.words.proofs.Places.{lt-or-ge}
 use Rattle.record.specs.Reading.{queue}
 use Rattle.table.specs.Table.{reading}
 use Rattle.table.specs.Promise.{Became}
-use Rattle.table.proofs.Once.{stable}
+use Rattle.record.proofs.Once.{stable}
 use Rattle.coding.specs.Image.{Allowed, NumberAllowed, imageOf}
 use Rattle.coding.specs.Item.{CellAllowed}
 use Rattle.image.specs.Promise.{Opened, startOf}

@@ -20,7 +20,8 @@ use Rattle.words.proofs.Places.{lt-or-ge}
 use Rattle.text.specs.Field.{recordOf}
 use Rattle.text.specs.Text.{Put}
 use Rattle.text.proofs.PutLaws.{put-once}
-use Rattle.table.proofs.Once.{either-way, refused-once, stable}
+use Rattle.record.proofs.Once.{stable}
+use Rattle.table.proofs.Once.{either-way, refused-once}
 use Rattle.answers.specs.Answer.{answerLine, answerText}
 use Rattle.cbor.specs.Code.{each}
 use Rattle.coding.specs.Image.{Allowed, imageOf}

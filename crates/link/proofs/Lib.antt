@@ -5,3 +5,4 @@ pub mod Gathers
 pub mod Delivers
 pub mod Requests
 pub mod Settles
+pub mod Once

@@ -4,3 +4,4 @@ pub mod Rounds
 pub mod Numbered
 pub mod Items
 pub mod Joins
+pub mod Once

@@ -10,3 +10,4 @@ pub mod Said
 pub mod Conditions
 pub mod Begins
 pub mod Steps
+pub mod Once

@@ -72,7 +72,7 @@ module _ (P : Place) (W : One P) (past : P .Holds) (cells : ℕ) (xs ys : List �
       (W .words xs ys (o + w * c) (X c below) (Y c below) (places-in P past cells xs ys o e c below) k (mod-lt (i - o) (W .wide)))
 
 -- A number that a segment gives or not.
-given-one : (a b : ℕ) → givenBy a ≡ givenBy b → a ≡ b
+pub given-one : (a b : ℕ) → givenBy a ≡ givenBy b → a ≡ b
 given-one zero zero e = refl
 given-one zero (suc b) e = let z : _≡_ {A = ℕ} 0 1 = cc in absurd (omega arith)
 given-one (suc a) zero e = let z : _≡_ {A = ℕ} 0 1 = cc in absurd (omega arith)

@@ -51,7 +51,7 @@ request-one (suc a) zero h k e = let z : _≡_ {A = ℕ} 0 1 = cc in absurd (ome
 request-one (suc a) (suc b) h k e = omega arith
 
 -- The words of a round.
-round-words : (cells : ℕ) (xs ys : List ℕ) (o : ℕ) → Valid changePlace xs (o + ROUND·CHANGES) cells → Valid changePlace ys (o + ROUND·CHANGES) cells → roundAt cells xs o ≡ roundAt cells ys o → (i : ℕ) → o ≤ i → i < o + ROUND·CHANGES + CHANGE * cells → getD xs i 0 ≡ getD ys i 0
+pub round-words : (cells : ℕ) (xs ys : List ℕ) (o : ℕ) → Valid changePlace xs (o + ROUND·CHANGES) cells → Valid changePlace ys (o + ROUND·CHANGES) cells → roundAt cells xs o ≡ roundAt cells ys o → (i : ℕ) → o ≤ i → i < o + ROUND·CHANGES + CHANGE * cells → getD xs i 0 ≡ getD ys i 0
 unfolding roundAt
 round-words cells xs ys o X Y e i l h = ⊎-elim
     (λ n. let q : o ≡ i = omega arith in subst (λ (j : ℕ). getD xs j 0 ≡ getD ys j 0) q (ap (λ (r : Round sheet). r .number) e))

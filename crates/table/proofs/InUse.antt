@@ -24,7 +24,7 @@ use Rattle.table.specs.Promise.{Stepped}
 use Rattle.table.specs.Claims.{Agree, Only·words·in·use}
 use Rattle.table.proofs.Part.{record-length, record-word}
 use Rattle.table.proofs.Tables.{reading-is, valid-from}
-use Rattle.table.proofs.Once.{stable}
+use Rattle.record.proofs.Once.{stable}
 
 module _ (xs ys : List ℕ) (A : Agree xs ys) where
   devices-eq : getD ys DEVICES 0 ≡ getD xs DEVICES 0

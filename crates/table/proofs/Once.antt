@@ -6,7 +6,6 @@ use Prim.Native.Nat.{ℕ, zero, suc, _<_}
 use native.Mathlib.Decide.{ℕ-discrete}
 use native.Mathlib.Omega.{arith}
 use lib.ListN.{length, getD}
-use lib.Seq.{ext-getD}
 use Rattle.cells.specs.declared.Cell.the-variants.{Blank}
 use Rattle.protocol.specs.declared.Refusal.{Refusal}
 use Rattle.protocol.specs.declared.Refusal.the-variants.{NoTable, OutsideAllowed, NoStep}
@@ -22,6 +21,7 @@ use Rattle.record.specs.Reading.{sheetAt, deviceOf}
 use Rattle.record.specs.Valid.{ValidRecord}
 use Rattle.record.proofs.One.{cell-one, places-words}
 use Rattle.record.proofs.OneRecord.{record-words}
+use Rattle.record.proofs.Once.{stable, words-once}
 use Rattle.record.proofs.Same.{in-record}
 use Rattle.table.specs.Table.{need, recordAt, reading, InTable, ValidTable, IsTable}
 use Rattle.table.specs.Promise.{Became, RefusedWith}
@@ -29,11 +29,6 @@ use Rattle.table.specs.Asked.{Asked, no·step, start, machine·step, Doe
 use Rattle.table.specs.Claims.{One·outcome, One·start}
 use Rattle.table.proofs.Part.{record-word}
 use Rattle.table.proofs.Tables.{device-at, taken-at}
-
--- What is not unequal is equal, where equality is decided.
-pub stable : {P : Type 0} → Dec P → ((P → ⊥) → ⊥) → P
-stable (yes p) n = p
-stable (no q) n = absurd (n q)
 
 module _ (xs ys : List ℕ) (X : ValidTable xs) (Y : ValidTable ys) (e : reading xs ≡ reading ys) where
   devices-eq : getD ys DEVICES 0 ≡ getD xs DEVICES 0
@@ -74,15 +69,14 @@ module _ (xs ys : List ℕ) (X : ValidTable xs) (Y : ValidTable ys) (e : reading
 
 -- Words that became the same table are the same words.
 pub became-once : (xs ys zs : List ℕ) (t : Table sheet) → Became xs ys t → Became xs zs t → ys ≡ zs
-became-once xs ys zs t A B = ext-getD 0 ys zs (A .size ∙ sym (B .size)) (λ i h. stable (ℕ-discrete (getD ys i 0) (getD zs i 0)) (λ n. n (unused i n)))
+became-once xs ys zs t A B = words-once xs ys zs (InTable ys) (InTable zs) (A .size ∙ sym (B .size))
+    (table-words ys zs (A .valid) (B .valid) says)
+    (table-words zs ys (B .valid) (A .valid) (sym says))
+    (A .kept)
+    (B .kept)
   where
     says : reading ys ≡ reading zs
     says = A .says ∙ sym (B .says)
-
-    unused : (i : ℕ) → (getD ys i 0 ≡ getD zs i 0 → ⊥) → getD ys i 0 ≡ getD zs i 0
-    unused i n =
-        A .kept i (λ u. n (table-words ys zs (A .valid) (B .valid) says i u))
-        ∙ sym (B .kept i (λ u. n (sym (table-words zs ys (B .valid) (A .valid) (sym says) i u))))
 
 -- Words that became what they said are as they were.
 pub became-same : (xs ys : List ℕ) (t : Table sheet) → IsTable xs → Became xs ys t → t ≡ reading xs → ys ≡ xs
