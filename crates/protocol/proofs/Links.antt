@@ -11,7 +11,7 @@ use lib.Dec.{T}
 use lib.ListN.{length, getD, drop}
 use Rattle.protocol.specs.declared.Refusal.the-variants.{NoChannel, NothingToDrop, NoRequest, NoConnection, Held}
 use Rattle.protocol.specs.Model.{Model}
-use Rattle.protocol.specs.Machine.{choose, given, isOff, isHeld, isLive, Channel, off, asked, live, Round, Item, prefix, segment, Device, Link, above, beyond, gives, sheetAfter, take·first, ask·at, drop·at, receive·at, pull·at, accept·at, accept·with, serverdrop·at, withLink, renewed, cutOff}
+use Rattle.protocol.specs.Machine.{choose, given, isOff, isHeld, isLive, Channel, off, asked, live, Round, Item, prefix, segment, Device, Link, above, beyond, gives, sheetAfter, take·first, connectionHeld, ask·at, drop·at, receive·at, pull·at, accept·at, accept·with, serverdrop·at, withLink, renewed, cutOff}
 use Rattle.protocol.specs.History.{Push, Past, places}
 use Rattle.protocol.proofs.Basics.{twice-not, above-above, length-above}
 use Rattle.protocol.proofs.Holds.{Holds}
@@ -76,7 +76,7 @@ module _ (M : Model) where
     accept-keeps s ns a es en =
         unless-kept M (λ y. DeviceInvariant M g at y (places M (h .pulled) (h .reach) (h .sent ++ (g .top ∷ [])) h)) (not (x .link .request)) NoRequest _
         (λ t.
-        unless-kept M (λ y. DeviceInvariant M g at y (places M (h .pulled) (h .reach) (h .sent ++ (g .top ∷ [])) h)) (isHeld (x .link .connection)) Held _
+        unless-kept M (λ y. DeviceInvariant M g at y (places M (h .pulled) (h .reach) (h .sent ++ (g .top ∷ [])) h)) (connectionHeld M x) Held _
         (λ u.
         let f = requested M g (untaken M g x) (x .link .channel) (x .link .request) (x .link .connection) (x .link .waiting) (x .link .items) (twice-not (x .link .request) t) u (v .line) in
         linked at record { channel = x .link .channel; request = false; connection = live; waiting = x .link .waiting; items = x .link .items ++ (prefix s ns ∷ []) } (h .sent ++ (g .top ∷ []))
