@@ -22,8 +22,8 @@ use Rattle.coding.specs.Image.{imageOf, Allowed}
 use Rattle.image.specs.Promise.{Opened}
 
 -- A line: a cell, a number added and the cell then; two changes and what they join to; steps of a table of so many devices and cells with
--- their answers, what then is in the push buffer of device 0, how many pushes and which change of cell 0, and the numbers of its pending rounds; allowed cells and numbers with the bytes
--- of their image; bytes that opening refuses by 12.
+-- their answers, what the push buffer of device 0 then covers and holds for cell 0, and the numbers of its pending rounds; allowed cells and
+-- numbers with the bytes of their image; bytes that opening refuses by 12.
 pub data Line : Type 0 where
   adding : Cell → ℤ → Cell → Line
   joining : Change → Change → Change → Line
