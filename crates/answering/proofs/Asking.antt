@@ -1,8 +1,8 @@
 -- The answer to one line, on any words. Assumes nothing.
 use mathlib.Core.Path.{_≡_, refl, sym, ap, subst, _∙_}
 use mathlib.Core.List.{List}
-use mathlib.Core.Logic.{_⊎_, ⊎-elim}
-use Prim.Native.Nat.{ℕ, _≤_}
+use mathlib.Core.Logic.{⊎-elim}
+use Prim.Native.Nat.{ℕ, min}
 use native.Mathlib.Omega.{arith}
 use lib.ListN.{length, getD, take}
 use lib.Seq.{take-all}
@@ -21,10 +21,9 @@ use Rattle.answering.specs.Answered.{Small, StartedSmall, Does, Answered
 pub does-as : (s told : Step) (xs : List ℕ) (a : Answer) (ys : List ℕ) → s ≡ told → Does (asked told) xs a ys → Does (asked s) xs a ys
 does-as s told xs a ys e h = subst (λ (t : Step). Does (asked t) xs a ys) (sym e) h
 
--- as many counts as are lent
-pub counts-lent : (r number : ℕ) (l : List ℕ) → length l ≡ 3 → (number ≤ 3 → r ≡ number) → (3 ≤ number → r ≡ 3) → take r l ≡ take number l
-counts-lent r number l e few many = ⊎-elim (λ h. ap (λ (n : ℕ). take n l) (few (omega arith)))
-    (λ h. take-all r l (omega (arith, many h)) ∙ sym (take-all number l (omega arith))) (lt-or-ge number 3)
+-- the first n of a list, where there may be fewer
+pub take-min : {A : Type 0} (i n : ℕ) (l : List A) → i ≡ min n (length l) → take i l ≡ take n l
+take-min i n l e = ⊎-elim (λ h. let g : i ≡ n = omega arith in ap (λ (k : ℕ). take k l) g) (λ h. take-all i l (omega arith) ∙ sym (take-all n l (omega arith))) (lt-or-ge n (length l))
 
 -- The three ways in which a start ends.
 module _ (devices cells : ℕ) (xs : List ℕ) where

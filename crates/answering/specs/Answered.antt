@@ -1,4 +1,4 @@
--- What the step program's answer to a line promises of the lent words, whatever they hold. Assumes nothing.
+-- What the step program's answer to a line (document 01, "Step program") promises of the lent words, whatever they hold. Assumes nothing.
 use mathlib.Core.List.{List}
 use Prim.Native.Nat.{ℕ, _≤_}
 use lib.ListN.{getD}

@@ -1,6 +1,6 @@
 // The answer to a line, on any words.
 ghost use mathlib.Core.Path.{_≡_};
-ghost use Prim.Native.Nat.{_≤_};
+ghost use Prim.Native.Nat.{min};
 ghost use Rattle.protocol.specs.Machine.{step};
 ghost use Rattle.protocol.specs.Machine as machine;
 ghost use Rattle.sheet.specs.Sheet.{sheet};
@@ -65,7 +65,7 @@ fn start_small(t: &mut [u64], devices: u64, cells: u64) -> Answer
 
 // How many of three counts stand in the list.
 fn number_of_counts(number: u64) -> usize
-    ensures { λ r. ⌜ (r ≤ 3) × ((number ≤ 3 → r ≡ number) × (3 ≤ number → r ≡ 3)) ⌝ }
+    ensures { λ r. ⌜ r ≡ min number 3 ⌝ }
 {
     if number < 3 { number as usize } else { 3 }
 }

@@ -7,9 +7,10 @@ use lib.ListN.{length, length-append}
 use lib.IntN.{ℤ}
 use mir.Syntax.{w64}
 use mir.Val.{SFits, toZ, ofZ}
+use mir.ValLaws.{toZ-ofZ}
 use Rattle.text.specs.Text.{Put, signedText}
 use Rattle.text.proofs.PutLaws.{put-as, put-then}
-use Rattle.text.proofs.Sign.{back, signed-length}
+use Rattle.text.proofs.Sign.{signed-length}
 use Rattle.answers.specs.Answer.{PutUpTo}
 
 -- a text that was put, under its name; two texts, one behind the other
@@ -28,7 +29,7 @@ module _ (most : ℕ) (a : List ℕ) (at : ℕ) where
 
 -- the text of a signed number as the machine has it
 pub signed-read : (z : ℤ) → SFits w64 z → signedText (toZ w64 (ofZ w64 z)) ≡ signedText z
-signed-read z h = ap signedText (back z h)
+signed-read z h = ap signedText (toZ-ofZ w64 z h)
 
 pub signed-read-length : (z : ℤ) → SFits w64 z → length (signedText (toZ w64 (ofZ w64 z))) ≤ 21
 signed-read-length z h = omega (arith, ap length (signed-read z h), signed-length z h)

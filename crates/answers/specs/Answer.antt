@@ -1,9 +1,9 @@
 -- The text of an answer (document 01, "Step program"). Assumes nothing.
 use Prim.Native.Nat.{ℕ, _+_, _≤_}
-use mathlib.Core.List.{List, [], _∷_, _++_}
+use mathlib.Core.List.{List, [], _∷_}
 use lib.Ieee.{toBits, binary64}
 use Rattle.text.specs.Field.{recordOf}
-use Rattle.text.specs.Text.{Put, decimalText, hexText, signedText}
+use Rattle.text.specs.Text.{Put, decimalText, ended, hexText, signedText}
 use Rattle.cells.specs.declared.Cell.{Cell}
 use Rattle.protocol.specs.Refusals.{numberOf}
 use Rattle.sheet.specs.declared.Answer.{Answer}
@@ -31,7 +31,7 @@ answerText (Answer.RefusedAt refusal place) = recordOf refusedText (decimalText 
 -- "Answers, one per line, CRLF"
 unfoldable pub answerLine : Answer → List ℕ
 unfolding answerText
-answerLine a = answerText a ++ (13 ∷ 10 ∷ [])
+answerLine a = ended (answerText a)
 
 -- a text of at most `most` bytes was put
 pub record PutUpTo (most : ℕ) (before : List ℕ) (at : ℕ) (text after : List ℕ) (next : ℕ) : Type 0 where

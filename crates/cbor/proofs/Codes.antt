@@ -32,7 +32,7 @@ all-at Ok [] i d v h = absurd (omega arith)
 all-at Ok (a ∷ l) zero d v h = v .0
 all-at Ok (a ∷ l) (suc i) d v h = all-at Ok l i d (v .1) (omega arith)
 
-pub length-snoc : {A : Type 0} (l : List A) (a : A) → length (l ++ (a ∷ [])) ≡ length l + 1
+length-snoc : {A : Type 0} (l : List A) (a : A) → length (l ++ (a ∷ [])) ≡ length l + 1
 length-snoc l a = length-append l (a ∷ [])
 
 -- what was read after what was read

@@ -10,39 +10,39 @@ use lib.Dec.{lit<}
 use lib.ListN.{drop, getD, length, length-append, length-drop, set, take, take-append-drop}
 use lib.Pow.{pow-add, pow-mono, shr-lt}
 use lib.Seq.{drop-at, drop-drop, getD-drop, take-at, take-suc}
-use Rattle.cbor.specs.Bytes.{BeAt, Got, be, put}
+use Rattle.cbor.specs.Bytes.{HighFirstAt, Got, highFirst, put}
 use Rattle.cbor.proofs.Writing.{put-front, put-nil, set-put}
 
-pub length-be : (n x : ℕ) → length (be n x) ≡ n
-unfolding be
-length-be zero x = refl
-length-be (suc n) x = rw (length-append, length-be n (x / 256), add-one)
+pub length-high-first : (n x : ℕ) → length (highFirst n x) ≡ n
+unfolding highFirst
+length-high-first zero x = refl
+length-high-first (suc n) x = rw (length-append, length-high-first n (x / 256), add-one)
 
 -- one byte of a number, written before the higher ones
-put-be-suc : (l : List ℕ) (p i y : ℕ) → p + suc i ≤ length l → put (set l (p + i) (y % 256)) p (be i (y / 256)) ≡ put l p (be (suc i) y)
-unfolding be
-put-be-suc l p i y h =
-    let e : length (be i (y / 256)) ≡ i = length-be i (y / 256) in
+put-high-first-suc : (l : List ℕ) (p i y : ℕ) → p + suc i ≤ length l → put (set l (p + i) (y % 256)) p (highFirst i (y / 256)) ≡ put l p (highFirst (suc i) y)
+unfolding highFirst
+put-high-first-suc l p i y h =
+    let e : length (highFirst i (y / 256)) ≡ i = length-high-first i (y / 256) in
     rw (set-put l (p + i) (y % 256) (omega arith))
-    (subst (λ (k : ℕ). put (put l (p + k) (y % 256 ∷ [])) p (be i (y / 256)) ≡ put l p (be i (y / 256) ++ (y % 256 ∷ []))) e
-    (put-front l p (be i (y / 256)) (y % 256 ∷ []) (omega arith)))
+    (subst (λ (k : ℕ). put (put l (p + k) (y % 256 ∷ [])) p (highFirst i (y / 256)) ≡ put l p (highFirst i (y / 256) ++ (y % 256 ∷ []))) e
+    (put-front l p (highFirst i (y / 256)) (y % 256 ∷ []) (omega arith)))
 
-pub put-be : (l : List ℕ) (p i y : ℕ) → 0 < i → p + i ≤ length l → put (set l (p + (i - 1)) (y % 256)) p (be (i - 1) (y / 256)) ≡ put l p (be i y)
-put-be l p zero y z h = absurd (omega arith)
-put-be l p (suc i) y z h = rw (suc-sub-one i) (put-be-suc l p i y h)
+pub put-high-first : (l : List ℕ) (p i y : ℕ) → 0 < i → p + i ≤ length l → put (set l (p + (i - 1)) (y % 256)) p (highFirst (i - 1) (y / 256)) ≡ put l p (highFirst i y)
+put-high-first l p zero y z h = absurd (omega arith)
+put-high-first l p (suc i) y z h = rw (suc-sub-one i) (put-high-first-suc l p i y h)
   where
     suc-sub-one : (k : ℕ) → suc k - 1 ≡ k
     suc-sub-one k = omega arith
 
-pub put-be-done : (l : List ℕ) (p i y : ℕ) → i ≤ 0 → put l p (be i y) ≡ l
-unfolding be
-put-be-done l p zero y h = put-nil l p
-put-be-done l p (suc i) y h = absurd (omega arith)
+pub put-high-first-done : (l : List ℕ) (p i y : ℕ) → i ≤ 0 → put l p (highFirst i y) ≡ l
+unfolding highFirst
+put-high-first-done l p zero y h = put-nil l p
+put-high-first-done l p (suc i) y h = absurd (omega arith)
 
 -- one byte more of a number, read high first
-be-snoc : (i v b : ℕ) → b < 256 → be (i + 1) (v * 256 + b) ≡ be i v ++ (b ∷ [])
-unfolding be
-be-snoc i v b h = rw (add-one, digits-div v h, digits-mod v h)
+high-first-snoc : (i v b : ℕ) → b < 256 → highFirst (i + 1) (v * 256 + b) ≡ highFirst i v ++ (b ∷ [])
+unfolding highFirst
+high-first-snoc i v b h = rw (add-one, digits-div v h, digits-mod v h)
 
 grown : (i v b : ℕ) → v < 2 ^ (8 * i) → b < 256 → v * 256 + b < 2 ^ (8 * (i + 1))
 grown i v b hv hb = rw (le-eq i, pow-add 2 (8 * i) 8) (digits-lt hv hb)
@@ -50,7 +50,7 @@ grown i v b hv hb = rw (le-eq i, pow-add 2 (8 * i) 8) (digits-lt hv hb)
     le-eq : (k : ℕ) → 8 * (k + 1) ≡ 8 * k + 8
     le-eq k = omega arith
 
-pub below-word : (i v : ℕ) → i ≤ 8 → v < 2 ^ (8 * i) → v < 2 ^ 64
+below-word : (i v : ℕ) → i ≤ 8 → v < 2 ^ (8 * i) → v < 2 ^ 64
 below-word i v h hv = lt-of-lt-of-le hv (pow-mono {i = 8 * i} {j = 64} (omega arith))
 
 -- one element more of a part
@@ -59,18 +59,18 @@ part-more s p i h =
     let l : i < length (drop p s) = omega (arith, length-drop p s) in
     rw (add-one, take-suc (drop p s) i 0 l, getD-drop p s i 0)
 
-pub be-none : (s : List ℕ) (p : ℕ) → BeAt s p 0 0
-unfolding be
-be-none s p = record { fits = lit< tt; written = refl }
+pub high-first-none : (s : List ℕ) (p : ℕ) → HighFirstAt s p 0 0
+unfolding highFirst
+high-first-none s p = record { fits = lit< tt; written = refl }
 
-pub be-more : (s : List ℕ) (p i y : ℕ) → BeAt s p i y → p + i < length s → getD s (p + i) 0 < 256 → BeAt s p (i + 1) (y * 256 + getD s (p + i) 0)
-be-more s p i y v h hb =
+pub high-first-more : (s : List ℕ) (p i y : ℕ) → HighFirstAt s p i y → p + i < length s → getD s (p + i) 0 < 256 → HighFirstAt s p (i + 1) (y * 256 + getD s (p + i) 0)
+high-first-more s p i y v h hb =
     record {
       fits = grown i y _ (v .fits) hb;
-      written = be-snoc i y _ hb ∙ ap (λ (l : List ℕ). l ++ (getD s (p + i) 0 ∷ [])) (v .written) ∙ sym (part-more s p i h);
+      written = high-first-snoc i y _ hb ∙ ap (λ (l : List ℕ). l ++ (getD s (p + i) 0 ∷ [])) (v .written) ∙ sym (part-more s p i h);
     }
 
-pub word-more : {s : List ℕ} {p : ℕ} (i y b : ℕ) → BeAt s p i y → i < 8 → b < 256 → y * 256 + b < 2 ^ 64
+pub word-more : {s : List ℕ} {p : ℕ} (i y b : ℕ) → HighFirstAt s p i y → i < 8 → b < 256 → y * 256 + b < 2 ^ 64
 word-more i y b v h hb = below-word (i + 1) _ (omega arith) (grown i y b (v .fits) hb)
 
 -- two lists that begin with parts of one length begin with the same part
@@ -81,25 +81,25 @@ app-inj xs ys u v l e = (
 )
 
 -- the bytes determine the number
-pub be-inj : (n a b : ℕ) → a < 2 ^ (8 * n) → b < 2 ^ (8 * n) → be n a ≡ be n b → a ≡ b
-unfolding be
-be-inj zero a b ha hb e = omega arith
-be-inj (suc n) a b ha hb e =
+pub high-first-inj : (n a b : ℕ) → a < 2 ^ (8 * n) → b < 2 ^ (8 * n) → highFirst n a ≡ highFirst n b → a ≡ b
+unfolding highFirst
+high-first-inj zero a b ha hb e = omega arith
+high-first-inj (suc n) a b ha hb e =
     let k : 8 * suc n ≡ 8 * n + 8 = omega arith in
-    let p = app-inj (be n (a / 256)) (be n (b / 256)) (a % 256 ∷ []) (b % 256 ∷ []) (length-be n (a / 256) ∙ sym (length-be n (b / 256))) e in
-    let q : a / 256 ≡ b / 256 = be-inj n (a / 256) (b / 256) (shr-lt (8 * n) 8 (rw k at ha)) (shr-lt (8 * n) 8 (rw k at hb)) (p .0) in
+    let p = app-inj (highFirst n (a / 256)) (highFirst n (b / 256)) (a % 256 ∷ []) (b % 256 ∷ []) (length-high-first n (a / 256) ∙ sym (length-high-first n (b / 256))) e in
+    let q : a / 256 ≡ b / 256 = high-first-inj n (a / 256) (b / 256) (shr-lt (8 * n) 8 (rw k at ha)) (shr-lt (8 * n) 8 (rw k at hb)) (p .0) in
     let m : a % 256 ≡ b % 256 = head-eq-of-cons-eq (p .1) in
     omega arith
 
 -- the bytes that were read stand there
-pub got-be : (s : List ℕ) (p n x : ℕ) → BeAt s p n x → p + n ≤ length s → Got s p (be n x) (p + n)
-got-be s p n x v l =
+pub got-high-first : (s : List ℕ) (p n x : ℕ) → HighFirstAt s p n x → p + n ≤ length s → Got s p (highFirst n x) (p + n)
+got-high-first s p n x v l =
     record {
-      here = sym (take-append-drop n (drop p s)) ∙ ap (λ (z : List ℕ). z ++ drop n (drop p s)) (sym (v .written)) ∙ ap (λ (z : List ℕ). be n x ++ z) (drop-drop n p s);
-      next = ap (λ (k : ℕ). p + k) (sym (length-be n x));
+      here = sym (take-append-drop n (drop p s)) ∙ ap (λ (z : List ℕ). z ++ drop n (drop p s)) (sym (v .written)) ∙ ap (λ (z : List ℕ). highFirst n x ++ z) (drop-drop n p s);
+      next = ap (λ (k : ℕ). p + k) (sym (length-high-first n x));
       within = l;
     }
 
 -- where n bytes stand, n are left
-pub enough : (s : List ℕ) (p n x : ℕ) (r : List ℕ) → drop p s ≡ be n x ++ r → n ≤ length s - p
-enough s p n x r e = omega (arith, simp (length-append, length-drop) at (ap length e), length-be n x)
+pub enough : (s : List ℕ) (p n x : ℕ) (r : List ℕ) → drop p s ≡ highFirst n x ++ r → n ≤ length s - p
+enough s p n x r e = omega (arith, simp (length-append, length-drop) at (ap length e), length-high-first n x)

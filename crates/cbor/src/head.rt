@@ -1,6 +1,6 @@
 // Heads: an initial byte, and the bytes of its argument where the five low bits do not hold it.
-use crate::bytes::read_be;
-use crate::bytes::write_be;
+use crate::bytes::read_high_first;
+use crate::bytes::write_high_first;
 ghost use mathlib.Core.Path.{_≡_};
 ghost use Prim.Native.Nat.{_+_, _≤_, _<_};
 ghost use lib.ListN.{length};
@@ -53,7 +53,7 @@ pub fn write_head(out: &mut [u8], at: usize, major: u8, argument: u64) -> usize
     let info = info_of(argument);
     let n = width_of(info);
     out[at] = 32 * major + info;
-    write_be(out, at + 1, n, argument);
+    write_high_first(out, at + 1, n, argument);
     at + 1 + n
 }
 
@@ -75,7 +75,7 @@ pub fn read_argument(s: &[u8], at: usize, info: u8) -> Argument
     if s.len() - at < n {
         return Argument::Bad;
     }
-    let a = read_be(s, at, n);
+    let a = read_high_first(s, at, n);
     let least = info_of(a);
     if least == info {
         return Argument::Of(a, at + n);

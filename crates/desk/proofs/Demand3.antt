@@ -18,6 +18,7 @@ use Rattle.sheet.specs.Answer.{meaning}
 use Rattle.sheet.specs.declared.Answer.{Answer}
 use Rattle.sheet.specs.declared.Answer.the-variants.{Done, Value, Yes, No, Moved, Length, Refused, RefusedAt}
 use Rattle.sheet.proofs.OneAnswer.{meaning-one}
+use Rattle.sheet.proofs.Runs.{run-append}
 use Rattle.sheet.proofs.Theorem as Sheet
 use Rattle.words.proofs.Places.{lt-or-ge}
 use Rattle.table.specs.Promise.{Stepped}
@@ -27,7 +28,7 @@ use Rattle.image.specs.Promise.{Written, imageOfTable}
 use Rattle.desk.specs.Calls.{Call, Called, Made, Calls, Renews, anew, start, update, block, read, confirmed, push, send, ask, give·up, receive, pull, accept, serverdrop, batch, crash, cut, write·image, open·image}
 use Rattle.desk.specs.Demand3.{stepOfCall, stepsOf, historyOf, readBy, refusalNumber, Next, reconnect, Reached, Demand·3·over·calls, Each·call}
 use Rattle.desk.proofs.Never1.{step-never-1, length-never-1, short-never-1}
-use Rattle.desk.proofs.Reaches.{start-stays, opening-stays, Allowed·start, At, is-table, run-append, called-steps, begun-at}
+use Rattle.desk.proofs.Reaches.{start-stays, opening-stays, Allowed·start, At, is-table, called-steps, begun-at}
 
 -- An answer with a refusal's number is a refusal of the machine, with a position or without.
 refusal-is : (a : Answer) → 0 < refusalNumber a → (r : Refusal) × ((meaning a ≡ machine.refused r) ⊎ ((k : ℕ) × (meaning a ≡ machine.refusedAt r k)))

@@ -10,7 +10,7 @@ use Rattle.cbor.proofs.Arrays.{array-broken, none-here}
 use Rattle.cbor.proofs.Codes.{broken}
 use Rattle.cbor.proofs.Heads.{no-argument}
 use Rattle.cbor.proofs.Tokens.{no-head}
-use Rattle.cbor.specs.Bytes.{BeAt, be}
+use Rattle.cbor.specs.Bytes.{HighFirstAt, highFirst}
 use Rattle.cbor.specs.Code.{All, Here, HereEach, Within, arrayOf, each}
 use Rattle.cbor.specs.Head.{headOf, infoOf, widthOf}
 use Rattle.cbor.specs.Token.{Initial, tokenOf}
@@ -38,24 +38,24 @@ first-allowed =
     }
 
 pub first-bytes : imageOf (Blank ∷ Count (negsuc 0) ∷ oneAndHalf ∷ []) (0 ∷ []) ≡ shortest
-unfolding imageOf arrayOf each headOf infoOf widthOf be tokenOf cellToken toBits ofBits
+unfolding imageOf arrayOf each headOf infoOf widthOf highFirst tokenOf cellToken toBits ofBits
 first-bytes = refl
 
 -- what stands in the bytes with the longer head
 longer-two : Here (headOf 4) (Within 2 2) longer 0 2 1
-unfolding headOf infoOf widthOf be
+unfolding headOf infoOf widthOf highFirst
 longer-two = ((omega arith, omega arith, omega arith), record { here = refl; next = refl; within = omega arith })
 
 longer-three : Here (headOf 4) (Within 1 64) longer 1 3 2
-unfolding headOf infoOf widthOf be
+unfolding headOf infoOf widthOf highFirst
 longer-three = ((omega arith, omega arith, omega arith), record { here = refl; next = refl; within = omega arith })
 
 longer-blank : HereEach cellBytes CellAllowed 1 longer 2 (Blank ∷ []) 3
 unfolding each All tokenOf cellToken
 longer-blank = (refl, (record { fits = tt; finite = refl }, tt), record { here = refl; next = refl; within = omega arith })
 
-longer-byte : BeAt longer 4 (widthOf 24) 0
-unfolding widthOf be
+longer-byte : HighFirstAt longer 4 (widthOf 24) 0
+unfolding widthOf highFirst
 longer-byte = record { fits = omega arith; written = refl }
 
 longer-least : infoOf 0 ≡ 24 → ⊥

@@ -8,13 +8,14 @@ use lib.ListN.{length}
 use Rattle.cbor.proofs.Codes.{all-at}
 use Rattle.cells.specs.declared.Cell.{Cell}
 use Rattle.protocol.specs.Fits.{Fits, Sizes}
-use Rattle.protocol.specs.Machine.{Start, Step, Table, step, run, fresh}
+use Rattle.protocol.specs.Machine.{Start, Step, Table, step, fresh}
 use Rattle.protocol.specs.History.{Every, tableAfter}
 use Rattle.sheet.specs.Sheet.{sheet}
 use Rattle.sheet.specs.Answer.{meaning}
 use Rattle.sheet.specs.declared.Answer.{Answer}
 use Rattle.sheet.specs.declared.Answer.the-variants.{Done}
 use Rattle.sheet.proofs.OneAnswer.{meaning-one, done-refused}
+use Rattle.sheet.proofs.Runs.{run-append}
 use Rattle.sheet.proofs.Theorem.{reached-fits}
 use Rattle.words.specs.Layout.{MOST·PUSHES}
 use Rattle.words.proofs.Places.{lt-or-ge}
@@ -39,10 +40,6 @@ pub record At (b : Start sheet) (steps : List (Step sheet)) (xs : List ℕ) : Ty
 
 pub is-table : {b : Start sheet} → Allowed·start b → {steps : List (Step sheet)} {xs : List ℕ} → At b steps xs → IsTable xs
 is-table {b} k {steps} A = record { valid = A .valid; fits = subst (Fits sheet) (sym (A .says)) (reached-fits b steps (k .sizes) (k .numbers)) }
-
-pub run-append : (ss more : List (Step sheet)) (t : Table sheet) → run sheet (ss ++ more) t ≡ run sheet more (run sheet ss t)
-run-append [] more t = refl
-run-append (s ∷ ss) more t = run-append ss more (step sheet s t .table)
 
 -- A start or an opening that is refused leaves the words.
 pub start-stays : (devices cells : ℕ) (xs ys : List ℕ) (a : Answer) → Started devices cells xs a ys → (a ≡ Done → ⊥) → ys ≡ xs

@@ -7,9 +7,9 @@ use lib.Ieee.{binary64, ofBits}
 use lib.ListN.{length, length-append}
 use Rattle.cbor.proofs.Codes.{each-bound, each-snoc}
 use Rattle.cbor.proofs.Heads.{info-cases, info-self, length-head, width-le, width-zero}
-use Rattle.cbor.proofs.Numbers.{length-be}
+use Rattle.cbor.proofs.Numbers.{length-high-first}
 use Rattle.cbor.proofs.Tokens.{info, token-form}
-use Rattle.cbor.specs.Bytes.{be}
+use Rattle.cbor.specs.Bytes.{highFirst}
 use Rattle.cbor.specs.Code.{All, arrayOf, each}
 use Rattle.cbor.specs.Head.{headOf, infoOf, widthOf}
 use Rattle.cbor.specs.Token.{argumentOf, tokenOf}
@@ -21,6 +21,7 @@ use Rattle.record.proofs.Queues.{queue-length}
 use Rattle.coding.specs.Image.{Allowed, NumberAllowed, imageOf}
 use Rattle.coding.specs.Item.{CellAllowed, cellBytes, cellToken}
 use Rattle.coding.proofs.Meaning.{measure-allowed}
+use Rattle.image.specs.Claims.{Longest, Longest·reached}
 use Rattle.image.proofs.Queued.{all-queue, length-array}
 use Rattle.image.proofs.Parts.{image-length}
 
@@ -39,9 +40,9 @@ length-few : (m a : ℕ) → a < 24 → length (headOf m a) ≤ 1
 length-few m a h = omega (arith, length-head m a, width-zero (infoOf a) (omega (arith, info-self a h)))
 
 length-cell : (c : Cell) → length (cellBytes c) ≤ 9
-length-cell c = omega (arith, ap length (token-form (cellToken c)), length-be (widthOf (info (cellToken c))) (argumentOf (cellToken c)), width-le (info (cellToken c)))
+length-cell c = omega (arith, ap length (token-form (cellToken c)), length-high-first (widthOf (info (cellToken c))) (argumentOf (cellToken c)), width-le (info (cellToken c)))
 
-pub longest : (cs : List Cell) (ns : List ℕ) → Allowed cs ns → length (imageOf cs ns) ≤ 620
+pub longest : Longest
 unfolding imageOf arrayOf
 longest cs ns al =
     simp length-append
@@ -56,7 +57,7 @@ longest cs ns al =
       al .devices .count .1,
     ))
 
--- which 64 measured numbers and 8 numbers of four bytes reach
+-- which 64 measured numbers and 8 numbers whose heads have five bytes reach
 length-same : {A : Type 0} (f : A → List ℕ) (a : A) (n : ℕ) → length (each f (queue n (λ _. a))) ≡ n * length (f a)
 unfolding queue each
 length-same f a zero = omega arith
@@ -66,58 +67,58 @@ length-same f a (suc n) =
 all-same : {A : Type 0} (Ok : A → Type 0) (a : A) (n : ℕ) → Ok a → All Ok (queue n (λ _. a))
 all-same Ok a n h = all-queue Ok n (λ _. a) (λ _ _. h)
 
-abbrev half : Cell
-half = Measure (ofBits binary64 0x3ff8_0000_0000_0000)
+abbrev oneAndAHalf : Cell
+oneAndAHalf = Measure (ofBits binary64 0x3ff8_0000_0000_0000)
 
-half-allowed : CellAllowed half
+one-and-a-half-allowed : CellAllowed oneAndAHalf
 unfolding finiteWord
-half-allowed = measure-allowed 0x3ff8_0000_0000_0000 refl
+one-and-a-half-allowed = measure-allowed 0x3ff8_0000_0000_0000 refl
 
-halves : ℕ → Cell
-halves _ = half
+allOneAndAHalf : ℕ → Cell
+allOneAndAHalf _ = oneAndAHalf
 
 millions : ℕ → ℕ
 millions _ = 1000000
 
-half-length : length (cellBytes half) ≡ 9
-unfolding tokenOf cellToken be
-half-length = refl
+one-and-a-half-length : length (cellBytes oneAndAHalf) ≡ 9
+unfolding tokenOf cellToken highFirst
+one-and-a-half-length = refl
 
 million-length : length (headOf 0 1000000) ≡ 5
-unfolding headOf infoOf widthOf be
+unfolding headOf infoOf widthOf highFirst
 million-length = refl
 
 heads-length : (length (headOf 4 2) ≡ 1) × (length (headOf 4 64) ≡ 2) × (length (headOf 4 8) ≡ 1)
-unfolding headOf infoOf widthOf be
+unfolding headOf infoOf widthOf highFirst
 heads-length = (refl, refl, refl)
 
-halves-length : length (each cellBytes (queue 64 halves)) ≡ 576
-unfolding halves
-halves-length = omega (arith, length-same cellBytes half 64, half-length)
+all-one-and-a-half-length : length (each cellBytes (queue 64 allOneAndAHalf)) ≡ 576
+unfolding allOneAndAHalf
+all-one-and-a-half-length = omega (arith, length-same cellBytes oneAndAHalf 64, one-and-a-half-length)
 
 millions-length : length (each (headOf 0) (queue 8 millions)) ≡ 40
 unfolding millions
 millions-length = omega (arith, length-same (headOf 0) 1000000 8, million-length)
 
-most-allowed : Allowed (queue 64 halves) (queue 8 millions)
-unfolding halves millions
+most-allowed : Allowed (queue 64 allOneAndAHalf) (queue 8 millions)
+unfolding allOneAndAHalf millions
 most-allowed =
     record {
-      sheet = record { count = rw (queue-length 64 halves) (omega arith, omega arith, omega arith); every = all-same CellAllowed half 64 half-allowed };
+      sheet = record { count = rw (queue-length 64 allOneAndAHalf) (omega arith, omega arith, omega arith); every = all-same CellAllowed oneAndAHalf 64 one-and-a-half-allowed };
       devices = record { count = rw (queue-length 8 millions) (omega arith, omega arith, omega arith); every = all-same NumberAllowed 1000000 8 (omega arith, omega arith, omega arith) };
     }
 
-pub longest-reached : (cs : List Cell) × (ns : List ℕ) × Allowed cs ns × (length (imageOf cs ns) ≡ 620)
+pub longest-reached : Longest·reached
 longest-reached = (
-  queue 64 halves,
+  queue 64 allOneAndAHalf,
   queue 8 millions,
   most-allowed,
   omega (
     arith,
-    image-length (queue 64 halves) (queue 8 millions),
-    length-array cellBytes 64 halves,
+    image-length (queue 64 allOneAndAHalf) (queue 8 millions),
+    length-array cellBytes 64 allOneAndAHalf,
     length-array (headOf 0) 8 millions,
-    halves-length,
+    all-one-and-a-half-length,
     millions-length,
     heads-length .0,
     heads-length .1,

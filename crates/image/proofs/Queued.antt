@@ -26,7 +26,7 @@ module _ {A : Type 0} (f : A → List ℕ) (g : ℕ → A) where
   one-more-room i n (yes l) h k = omega (arith, k (omega arith), ap length (each-snoc f (queue n g) (g n)), length-append (each f (queue n g)) (f (g n)))
   one-more-room i n (no l) h k = let e : i ≡ suc n = omega arith in rw e (omega arith)
 
-  pub each-room : (i n : ℕ) → i ≤ n → length (each f (queue i g)) ≤ length (each f (queue n g))
+  each-room : (i n : ℕ) → i ≤ n → length (each f (queue i g)) ≤ length (each f (queue n g))
   each-room i zero h = let e : i ≡ 0 = omega arith in rw e (omega arith)
   each-room i (suc n) h = one-more-room i n (decLt i (suc n)) h (each-room i n)
 

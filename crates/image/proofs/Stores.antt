@@ -53,7 +53,7 @@ module _ (xs : List ℕ) where
   pub numbers-read : queue (getD xs DEVICES 0) (numberIn xs (RECORDS + TAKEN) RECORD) ≡ queue (reading xs .devices) (reading xs .taken)
   numbers-read = queue-same (getD xs DEVICES 0) _ _ number-read ∙ (unfold reading in refl)
 
-  pub image-read : imageAt xs xs (placesOf xs) ≡ imageOfTable (reading xs)
+  image-read : imageAt xs xs (placesOf xs) ≡ imageOfTable (reading xs)
   image-read = (λ i. imageOf (cells-read i) (numbers-read i))
 
   -- a table's sheet and numbers are allowed, and in their places

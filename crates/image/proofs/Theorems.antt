@@ -1,4 +1,4 @@
--- The claims of specs/Claims.antt, each proved. Assumes nothing.
+-- The claims of specs/Claims.antt, each proved (`One·encoding` in Whole.antt, `Longest` and `Longest·reached` in Longest.antt). Assumes nothing.
 use mathlib.Core.List.{List, [], _++_}
 use mathlib.Core.Bool.{Bool}
 use mathlib.Core.Logic.{_⊎_, ⊎-elim}
@@ -28,24 +28,13 @@ use Rattle.record.proofs.Queues.{queue-length}
 use Rattle.table.specs.Promise.{Became}
 use Rattle.table.specs.Table.{IsTable, need, reading, recordAt}
 use Rattle.table.proofs.Once.{became-once, either-way, refused-once}
-use Rattle.image.specs.Claims.{Longest, Longest·reached, One·encoding, One·opening, One·writing, Opened·table, Opened·written, Opening·answers, Writing·answers, Written·opened}
+use Rattle.image.specs.Claims.{One·opening, One·writing, Opened·table, Opened·written, Opening·answers, Writing·answers, Written·opened}
 use Rattle.coding.specs.Image.{Allowed, NotImage, NumberAllowed, imageOf}
 use Rattle.image.specs.Promise.{Makes, Opened, Stores, imageOfTable, startOf}
 use Rattle.image.specs.Words.{cellIn}
-use Rattle.image.proofs.Longest as Longest
 use Rattle.image.proofs.Opens.{queue-cut, queue-is}
 use Rattle.image.proofs.Parts.{stored-allowed}
 use Rattle.image.proofs.Stores.{cells-read, numbers-read, placesOf, table-stored}
-use Rattle.image.proofs.Whole.{image-inj}
-
-pub one-encoding : One·encoding
-one-encoding cells others numbers more a b e = image-inj cells others numbers more a b e
-
-pub longest : Longest
-longest = Longest.longest
-
-pub longest-reached : Longest·reached
-longest-reached = Longest.longest-reached
 
 -- Answers that are never the same, and lengths that are.
 module _ (m : machine.Answer sheet) where

@@ -13,6 +13,7 @@ use Rattle.cells.specs.declared.Cell.{Cell}
 use Rattle.coding.specs.Image.{Allowed, NotImage, NumberAllowed, imageOf}
 use Rattle.coding.specs.Item.{CellAllowed, cellBytes}
 use Rattle.coding.proofs.Meaning.{cell-free, number-free}
+use Rattle.image.specs.Claims.{One·encoding}
 
 abbrev numbersCode : List ℕ → List ℕ
 numbersCode = arrayOf (headOf 0)
@@ -33,7 +34,7 @@ image-split cs ns r =
     ∙ ap (λ (l : List ℕ). headOf 4 2 ++ l) (append-assoc (arrayOf cellBytes cs) (numbersCode ns) r)
 
 -- no image begins another
-pub image-free : (cs ds : List Cell) (ns ms r q : List ℕ) → Allowed cs ns → Allowed ds ms → imageOf cs ns ++ r ≡ imageOf ds ms ++ q → (cs ≡ ds) × (ns ≡ ms) × (r ≡ q)
+image-free : (cs ds : List Cell) (ns ms r q : List ℕ) → Allowed cs ns → Allowed ds ms → imageOf cs ns ++ r ≡ imageOf ds ms ++ q → (cs ≡ ds) × (ns ≡ ms) × (r ≡ q)
 image-free cs ds ns ms r q a b e =
     let h = array-head-free 2 2 (arrayOf cellBytes cs ++ (numbersCode ns ++ r)) (arrayOf cellBytes ds ++ (numbersCode ms ++ q)) (two .2) (two .2) (sym (image-split cs ns r) ∙ e ∙ image-split ds ms q) in
     let c = sheet-free cs ds (numbersCode ns ++ r) (numbersCode ms ++ q) (a .sheet) (b .sheet) (h .1) in
@@ -41,7 +42,7 @@ image-free cs ds ns ms r q a b e =
     (c .0, n .0, n .1)
 
 -- two sheets never have one image
-pub image-inj : (cs ds : List Cell) (ns ms : List ℕ) → Allowed cs ns → Allowed ds ms → imageOf cs ns ≡ imageOf ds ms → (cs ≡ ds) × (ns ≡ ms)
+pub image-inj : One·encoding
 image-inj cs ds ns ms a b e =
     let f = image-free cs ds ns ms [] [] a b (ap (λ (l : List ℕ). l ++ []) e) in
     (f .0, f .1)

@@ -1,5 +1,6 @@
--- What the promises of writing and opening come to. Assumes nothing.
+-- What the promises of writing and opening an image (document 01, "Stored image") come to. Assumes nothing.
 use mathlib.Core.List.{List, _++_}
+use mathlib.Core.Logic.{_↔_}
 use mathlib.Core.Path.{_≡_}
 use Prim.Native.Nat.{ℕ, _≤_, _<_}
 use lib.ListN.{length, getD, take, drop}
@@ -15,10 +16,6 @@ use Rattle.table.specs.Table.{need, reading, IsTable}
 use Rattle.coding.specs.Image.{imageOf, Allowed, NotImage}
 use Rattle.image.specs.Promise.{imageOfTable, Written, Opened}
 
--- Each exactly when the other.
-abbrev pub Exactly : Type 0 → Type 0 → Type 0
-Exactly P Q = (P → Q) × (Q → P)
-
 -- One image of one sheet with its numbers: allowed cells and numbers are read from it in one way only.
 abbrev pub One·encoding : Type 0
 One·encoding = (cells others : List Cell) (numbers more : List ℕ) → Allowed cells numbers → Allowed others more → imageOf cells numbers ≡ imageOf others more → (cells ≡ others) × (numbers ≡ more)
@@ -32,18 +29,18 @@ Longest·reached = (cells : List Cell) × (numbers : List ℕ) × Allowed cells 
 
 -- Which answer writing gives, and when.
 pub record WritingAnswers (xs old : List ℕ) (a : Answer) : Type 0 where
-  pub write-1 : Exactly (meaning a ≡ refused NoTable) (IsTable xs → ⊥)
-  pub write-11 : IsTable xs → Exactly (meaning a ≡ refused BufferShort) (length old < length (imageOfTable (reading xs)))
-  pub write-length : IsTable xs → Exactly (meaning a ≡ length·is (length (imageOfTable (reading xs)))) (length (imageOfTable (reading xs)) ≤ length old)
+  pub write-1 : (meaning a ≡ refused NoTable) ↔ (IsTable xs → ⊥)
+  pub write-11 : IsTable xs → ((meaning a ≡ refused BufferShort) ↔ (length old < length (imageOfTable (reading xs))))
+  pub write-length : IsTable xs → ((meaning a ≡ length·is (length (imageOfTable (reading xs)))) ↔ (length (imageOfTable (reading xs)) ≤ length old))
 
 abbrev pub Writing·answers : Type 0
 Writing·answers = (xs old new : List ℕ) (a : Answer) → Written xs old a new → WritingAnswers xs old a
 
 -- Which answer opening gives, and when: 12 exactly when the bytes are the encoding of no allowed cells and numbers.
 pub record OpeningAnswers (bytes xs : List ℕ) (a : Answer) : Type 0 where
-  pub open-12 : Exactly (meaning a ≡ refused NoImage) (NotImage bytes)
-  pub open-1 : (cells : List Cell) (numbers : List ℕ) → Allowed cells numbers → bytes ≡ imageOf cells numbers → Exactly (meaning a ≡ refused NoTable) (length xs < need (length numbers))
-  pub open-done : (cells : List Cell) (numbers : List ℕ) → Allowed cells numbers → bytes ≡ imageOf cells numbers → Exactly (meaning a ≡ done) (need (length numbers) ≤ length xs)
+  pub open-12 : (meaning a ≡ refused NoImage) ↔ (NotImage bytes)
+  pub open-1 : (cells : List Cell) (numbers : List ℕ) → Allowed cells numbers → bytes ≡ imageOf cells numbers → ((meaning a ≡ refused NoTable) ↔ (length xs < need (length numbers)))
+  pub open-done : (cells : List Cell) (numbers : List ℕ) → Allowed cells numbers → bytes ≡ imageOf cells numbers → ((meaning a ≡ done) ↔ (need (length numbers) ≤ length xs))
 
 abbrev pub Opening·answers : Type 0
 Opening·answers = (bytes xs ys : List ℕ) (a : Answer) → Opened bytes xs a ys → OpeningAnswers bytes xs a

@@ -1,4 +1,4 @@
--- What writing and opening an image promise. Assumes nothing.
+-- What writing and opening an image (document 01, "Stored image") promise. Assumes nothing.
 use mathlib.Core.List.{List, _++_}
 use mathlib.Core.Path.{_≡_}
 use Prim.Native.Nat.{ℕ, _≤_, _<_}

@@ -1,4 +1,4 @@
--- What the readers of an image answer, and leave in their buffers. Assumes nothing.
+-- What the readers of an image (document 01, "Stored image") answer, and leave in their buffers. Assumes nothing.
 use mathlib.Core.List.{List}
 use mathlib.Core.Path.{_≡_}
 use Prim.Native.Nat.{ℕ}
@@ -20,8 +20,8 @@ PassedIs f Ok held Sound n s p Broken = NowhereEach f Ok n s p
 
 -- The array of the first n values that the buffer holds stands in s at p; or no array stands there.
 abbrev pub ArrayReadIs : {A : Type 0} → (A → List ℕ) → (A → Type 0) → (ℕ → List A) → (ℕ → Type 0) → ℕ → ℕ → List ℕ → ℕ → ArrayRead → Type 0
-ArrayReadIs f Ok held Sound lo hi s p (Elements n q) = Here (arrayOf f) (Listed lo hi Ok) s p (held n) q × Sound n
-ArrayReadIs f Ok held Sound lo hi s p NoArray = Nowhere (arrayOf f) (Listed lo hi Ok) s p
+ArrayReadIs f Ok held Sound least most s p (Elements n q) = Here (arrayOf f) (Listed least most Ok) s p (held n) q × Sound n
+ArrayReadIs f Ok held Sound least most s p NoArray = Nowhere (arrayOf f) (Listed least most Ok) s p
 
 -- The bytes are the image of the n cells and d numbers at the fronts of the two buffers.
 pub record ImageOf (s words numbers : List ℕ) (n d : ℕ) : Type 0 where

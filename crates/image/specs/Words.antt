@@ -1,4 +1,4 @@
--- Cells and numbers that lie in lent words. Assumes nothing.
+-- Cells and numbers that lie in lent words, for the image of them (document 01, "Stored image"). Assumes nothing.
 use mathlib.Core.List.{List}
 use Prim.Native.Nat.{ℕ, _+_, _*_, _≤_, _<_}
 use lib.ListN.{length, getD}

@@ -5,9 +5,12 @@ use protocol::Refusal;
 use record::begin::begin_knowing;
 use sheet::Answer;
 use words::across::copy_cells_from;
+use words::layout::CELL;
 use words::layout::CELLS;
 use words::layout::DEVICES;
 use words::layout::KNOWN;
+use words::layout::MOST_CELLS;
+use words::layout::MOST_DEVICES;
 use words::layout::RECORD;
 use words::layout::RECORDS;
 use words::layout::SHEET;
@@ -64,8 +67,8 @@ fn make_table(t: &mut [u64], devices: usize, cells: usize, sheet: &[u64], number
 pub fn open_image(t: &mut [u64], bytes: &[u8]) -> Answer
     ensures { λ a. ⌜ Opened (now (bytes .entry)) (now (t .entry)) a (now (t .exit)) ⌝ }
 {
-    let mut sheet = [0u64; 128];
-    let mut numbers = [0u64; 8];
+    let mut sheet = [0u64; CELL * MOST_CELLS];
+    let mut numbers = [0u64; MOST_DEVICES];
     match decode(bytes, &mut sheet, &mut numbers) {
         Decoded::Sheet(cells, devices) => make_table(t, devices, cells, &sheet, &numbers),
         Decoded::NoImage => Answer::Refused(Refusal::NoImage),

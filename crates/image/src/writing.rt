@@ -107,12 +107,15 @@ fn write_all(words: &[u64], numbers: &[u64], p: Places, out: &mut [u8]) -> usize
     write_devices(numbers, p.first, p.stride, p.devices, out, b)
 }
 
+// The bytes of the longest image.
+pub const LONGEST: usize = 620;
+
 // Writes the image to the buffer's front, or nothing where it has no room.
 pub fn write(words: &[u64], numbers: &[u64], p: Places, out: &mut [u8]) -> Answer
     requires { ⌜ Stored (now words) (now numbers) p ⌝ }
     ensures { λ a. ⌜ Stores (imageAt (now (words .entry)) (now (numbers .entry)) p) (now (out .entry)) a (now (out .exit)) ⌝ }
 {
-    let mut buffer = [0u8; 620];
+    let mut buffer = [0u8; LONGEST];
     let n = write_all(words, numbers, p, &mut buffer);
     if out.len() < n {
         return Answer::Refused(Refusal::BufferShort);

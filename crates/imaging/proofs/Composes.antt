@@ -21,7 +21,7 @@ use Rattle.imaging.specs.Composed.{Composed, NotText, TextOf}
 use Rattle.imaging.proofs.WholeText.{text-inj}
 
 -- n cells and d numbers at the fronts of two buffers
-abbrev pub fronts : ℕ → ℕ → Places
+abbrev fronts : ℕ → ℕ → Places
 fronts n d = record { cells = n; sheet = 0; devices = d; first = 0; stride = 1 }
 
 in-front : (k : ℕ) → 0 + 1 * k ≡ k

@@ -1,4 +1,4 @@
--- The claims of specs/Claims.antt, each proved. Assumes nothing.
+-- The claims of specs/Claims.antt, each proved (`One·text` in WholeText.antt). Assumes nothing.
 use mathlib.Core.List.{List, [], _++_, _∷_, append-assoc}
 use mathlib.Core.Logic.{_⊎_, ⊎-elim}
 use mathlib.Core.Path.{_∙_, _≡_, ap, refl, sym}
@@ -27,13 +27,10 @@ use Rattle.cbor.specs.Code.{each}
 use Rattle.coding.specs.Image.{Allowed, imageOf}
 use Rattle.image.specs.Promise.{Stores}
 use Rattle.image.proofs.Theorems.{Image, length-refused, none, one-length}
-use Rattle.imaging.specs.Claims.{Composed·shown, Composing·answers, One·composing, One·showing, One·text, Refused·shown, Shown·composed}
+use Rattle.imaging.specs.Claims.{Composed·shown, Composing·answers, One·composing, One·showing, Refused·shown, Shown·composed}
 use Rattle.imaging.specs.Composed.{Composed, NotText}
 use Rattle.listing.specs.Shown.{cellLine, imageText, numberLine}
-use Rattle.imaging.proofs.WholeText.{cell-first, text-inj}
-
-pub one-text : One·text
-one-text cells others numbers more a b e = text-inj cells others numbers more a b e
+use Rattle.imaging.proofs.WholeText.{cell-first}
 
 buffer-image : (m : machine.Answer sheet) → m ≡ refused BufferShort → m ≡ refused NoImage → ⊥
 buffer-image m p q = let z : _≡_ {A = ℕ} 0 1 = cc in omega arith

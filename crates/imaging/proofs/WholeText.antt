@@ -16,6 +16,7 @@ use Rattle.answers.specs.Answer.{answerLine, answerText, cellText}
 use Rattle.coding.specs.Image.{Allowed, NumberAllowed}
 use Rattle.coding.specs.Item.{CellAllowed}
 use Rattle.image.specs.Words.{cellIn, cellsOf, numbersOf}
+use Rattle.imaging.specs.Claims.{One·text}
 use Rattle.imaging.specs.Composed.{NotText, TextOf}
 use Rattle.listing.specs.Shown.{cellLine, imageText, numberLine, numberRecord}
 use Rattle.imaging.specs.Runs.{RunIs}
@@ -70,7 +71,7 @@ numbers-end ns = append-nil (each numberLine ns)
 module _ (s : List ℕ) (l : List Cell) (m : List ℕ) (p q : ℕ) (ol : All CellAllowed l) (om : All NumberAllowed m)
     (first : s ≡ each cellLine l ++ drop p s) (then : drop p s ≡ each numberLine m ++ drop q s)
     (more-cells : length l < 64 → NoneAt cellLine CellAllowed (drop p s)) (more-numbers : length m < 8 → NoneAt numberLine NumberAllowed (drop q s)) where
-  pub runs-are : (cs : List Cell) (ns : List ℕ) → Allowed cs ns → s ≡ imageText cs ns → (cs ≡ l) × (ns ≡ m) × ([] ≡ drop q s)
+  runs-are : (cs : List Cell) (ns : List ℕ) → Allowed cs ns → s ≡ imageText cs ns → (cs ≡ l) × (ns ≡ m) × ([] ≡ drop q s)
   unfolding imageText
   runs-are cs ns ok e =
       let c = same-run cellLine CellAllowed cell-line-free cs l (each numberLine ns) (drop p s) (ok .sheet .every) ol (sym e ∙ first) (λ a r _. no-cell ns r a) (λ h. more-cells (omega (arith, ok .sheet .count .1))) in
@@ -78,7 +79,7 @@ module _ (s : List ℕ) (l : List Cell) (m : List ℕ) (p q : ℕ) (ol : All Cel
       (c .0, n .0, n .1)
 
 -- two images never have one text
-pub text-inj : (cs ds : List Cell) (ns ms : List ℕ) → Allowed cs ns → Allowed ds ms → imageText cs ns ≡ imageText ds ms → (cs ≡ ds) × (ns ≡ ms)
+pub text-inj : One·text
 unfolding imageText
 text-inj cs ds ns ms a b e =
     let c = same-run cellLine CellAllowed cell-line-free cs ds (each numberLine ns) (each numberLine ms) (a .sheet .every) (b .sheet .every) e (λ x r _. no-cell ns r x) (λ h x r _. no-cell ms r x) in

@@ -1,5 +1,6 @@
--- What the promises of showing an image and of composing one come to. Assumes nothing.
+-- Beyond document 01: an image as text (docs/DECISIONS.md, "The stored image"). What the promises of showing an image and of composing one come to. Assumes nothing.
 use mathlib.Core.List.{List, _++_}
+use mathlib.Core.Logic.{_↔_}
 use mathlib.Core.Path.{_≡_}
 use Prim.Native.Nat.{ℕ, _≤_, _<_}
 use lib.ListN.{length, take, drop}
@@ -9,7 +10,6 @@ use Rattle.protocol.specs.Machine.{refused, length·is}
 use Rattle.sheet.specs.Answer.{meaning}
 use Rattle.sheet.specs.declared.Answer.{Answer}
 use Rattle.sheet.specs.declared.Answer.the-variants.{Length}
-use Rattle.image.specs.Claims.{Exactly}
 use Rattle.coding.specs.Image.{imageOf, Allowed, NotImage}
 use Rattle.listing.specs.Shown.{imageText, Shown}
 use Rattle.imaging.specs.Composed.{NotText, Composed}
@@ -20,9 +20,9 @@ One·text = (cells others : List Cell) (numbers more : List ℕ) → Allowed cel
 
 -- Which answer composing gives, and when: 12 exactly when the text is that of no image.
 pub record ComposingAnswers (t old : List ℕ) (a : Answer) : Type 0 where
-  pub compose-12 : Exactly (meaning a ≡ refused NoImage) (NotText t)
-  pub compose-11 : (cells : List Cell) (numbers : List ℕ) → Allowed cells numbers → t ≡ imageText cells numbers → Exactly (meaning a ≡ refused BufferShort) (length old < length (imageOf cells numbers))
-  pub compose-length : (cells : List Cell) (numbers : List ℕ) → Allowed cells numbers → t ≡ imageText cells numbers → Exactly (meaning a ≡ length·is (length (imageOf cells numbers))) (length (imageOf cells numbers) ≤ length old)
+  pub compose-12 : (meaning a ≡ refused NoImage) ↔ (NotText t)
+  pub compose-11 : (cells : List Cell) (numbers : List ℕ) → Allowed cells numbers → t ≡ imageText cells numbers → ((meaning a ≡ refused BufferShort) ↔ (length old < length (imageOf cells numbers)))
+  pub compose-length : (cells : List Cell) (numbers : List ℕ) → Allowed cells numbers → t ≡ imageText cells numbers → ((meaning a ≡ length·is (length (imageOf cells numbers))) ↔ (length (imageOf cells numbers) ≤ length old))
 
 abbrev pub Composing·answers : Type 0
 Composing·answers = (t old new : List ℕ) (a : Answer) → Composed t old a new → ComposingAnswers t old a

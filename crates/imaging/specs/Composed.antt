@@ -1,4 +1,4 @@
--- What making an image of its text promises. Assumes nothing.
+-- Beyond document 01: an image as text (docs/DECISIONS.md, "The stored image"). What making an image of its text promises. Assumes nothing.
 use mathlib.Core.List.{List}
 use mathlib.Core.Path.{_≡_}
 use Prim.Native.Nat.{ℕ}

@@ -1,4 +1,4 @@
--- The lines of one kind that stand one after the other in an image's text. Assumes nothing.
+-- Beyond document 01: an image as text (docs/DECISIONS.md, "The stored image"). The lines of one kind that stand one after the other in an image's text. Assumes nothing.
 use mathlib.Core.List.{List}
 use Prim.Native.Nat.{ℕ, _≤_, _<_}
 use Rattle.cbor.specs.Code.{Nowhere, HereEach}

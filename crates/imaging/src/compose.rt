@@ -8,6 +8,7 @@ use listing::line::cell_line;
 use listing::line::number_line;
 use protocol::Refusal;
 use sheet::Answer;
+use words::layout::CELL;
 use words::layout::MOST_CELLS;
 use words::layout::MOST_DEVICES;
 use words::place::put_cell;
@@ -94,8 +95,8 @@ fn read_text(s: &[u8], words: &mut [u64], numbers: &mut [u64]) -> Decoded
 pub fn compose(text: &[u8], out: &mut [u8]) -> Answer
     ensures { λ a. ⌜ Composed (now (text .entry)) (now (out .entry)) a (now (out .exit)) ⌝ }
 {
-    let mut words = [0u64; 128];
-    let mut numbers = [0u64; 8];
+    let mut words = [0u64; CELL * MOST_CELLS];
+    let mut numbers = [0u64; MOST_DEVICES];
     match read_text(text, &mut words, &mut numbers) {
         Decoded::Sheet(cells, devices) => {
             let places = Places {

@@ -6,6 +6,9 @@ use protocol::Refusal;
 use sheet::Answer;
 use text::put::put;
 use text::put::put_decimal;
+use words::layout::CELL;
+use words::layout::MOST_CELLS;
+use words::layout::MOST_DEVICES;
 use words::place::get_cell;
 ghost use Prim.Native.Nat.{_+_, _*_, _≤_};
 ghost use lib.ListN.{length};
@@ -66,8 +69,8 @@ fn put_image(out: &mut [u8], words: &[u64], cells: usize, numbers: &[u64], devic
 pub fn show(bytes: &[u8], out: &mut [u8; 4096]) -> usize
     ensures { λ r. ⌜ Shown (now (bytes .entry)) (now (out .entry)) (now (out .exit)) r ⌝ }
 {
-    let mut words = [0u64; 128];
-    let mut numbers = [0u64; 8];
+    let mut words = [0u64; CELL * MOST_CELLS];
+    let mut numbers = [0u64; MOST_DEVICES];
     match decode(bytes, &mut words, &mut numbers) {
         Decoded::Sheet(cells, devices) => put_image(out, &words, cells, &numbers, devices),
         Decoded::NoImage => put_answer_line(out, 0, Answer::Refused(Refusal::NoImage)),

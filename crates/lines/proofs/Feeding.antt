@@ -3,10 +3,10 @@ use Prim.Native.Nat.{ℕ, _≤_, _<_}
 use mathlib.Core.Path.{_≡_, refl, ap, sym, subst}
 use mathlib.Core.List.{List, [], _∷_}
 use lib.ListN.{length, take}
-use Rattle.lines.specs.declared.Pending.{Pending}
+use Rattle.lines.specs.declared.Unended.{Unended}
 use Rattle.lines.specs.declared.Fed.{Fed}
 use Rattle.lines.specs.declared.Fed.the-variants.{More, Line, Long}
-use Rattle.lines.specs.Lines.{Next, more, line, nextOf, linesAt, pendingAt, pendingAfter, endedIn}
+use Rattle.lines.specs.Lines.{Next, more, line, nextOf, linesAt, unendedAt, unendedAfter, endedIn}
 use Rattle.lines.specs.Held.{Held, FedIs, fedOf, bufferAfter}
 use Rattle.lines.proofs.Held.{fed-is}
 
@@ -15,10 +15,10 @@ abbrev pub endedBy : Next → List (List ℕ)
 endedBy n = linesAt n (λ q. [])
 
 abbrev pub leftBy : Next → List ℕ
-leftBy n = pendingAt n (λ q. q)
+leftBy n = unendedAt n (λ q. q)
 
 -- the line goes on
-pub record Goes (n : Next) (buffer : List ℕ) (p : Pending) : Type 0 where
+pub record Goes (n : Next) (buffer : List ℕ) (p : Unended) : Type 0 where
   pub held : Held (leftBy n) buffer p
   pub none : endedBy n ≡ []
 
@@ -35,7 +35,7 @@ pub record IsLong (n : Next) : Type 0 where
   pub empty : leftBy n ≡ []
 
 module _ (buffer : List ℕ) where
-  goes : (n : Next) (p : Pending) → FedIs n (More p) buffer → Goes n buffer p
+  goes : (n : Next) (p : Unended) → FedIs n (More p) buffer → Goes n buffer p
   goes (more q) p h = record { held = h; none = refl }
   goes (line k) p h = absurd h
 
@@ -48,24 +48,24 @@ module _ (buffer : List ℕ) where
   is-long (line k) h = record { text = k; ended = refl; long = h; empty = refl }
 
 -- of the line q that is held before the byte b
-module _ (q buffer : List ℕ) (p : Pending) (b : ℕ) (room : 81 ≤ length buffer) (h : Held q buffer p) where
-  right : (a : Fed) → fedOf p b ≡ a → FedIs (nextOf q b) a (bufferAfter buffer p b)
-  right a e = subst (λ (x : Fed). FedIs (nextOf q b) x (bufferAfter buffer p b)) e (fed-is q buffer p b room h)
+module _ (q buffer : List ℕ) (p : Unended) (b : ℕ) (room : 81 ≤ length buffer) (h : Held q buffer p) where
+  pub answer-right : (a : Fed) → fedOf p b ≡ a → FedIs (nextOf q b) a (bufferAfter buffer p b)
+  answer-right a e = subst (λ (x : Fed). FedIs (nextOf q b) x (bufferAfter buffer p b)) e (fed-is q buffer p b room h)
 
-  pub fed-more : (r : Pending) → fedOf p b ≡ More r → Goes (nextOf q b) (bufferAfter buffer p b) r
-  fed-more r e = goes (bufferAfter buffer p b) (nextOf q b) r (right (More r) e)
+  pub fed-more : (r : Unended) → fedOf p b ≡ More r → Goes (nextOf q b) (bufferAfter buffer p b) r
+  fed-more r e = goes (bufferAfter buffer p b) (nextOf q b) r (answer-right (More r) e)
 
   pub fed-line : (m : ℕ) → fedOf p b ≡ Line m → Stands (nextOf q b) (bufferAfter buffer p b) m
-  fed-line m e = stands (bufferAfter buffer p b) (nextOf q b) m (right (Line m) e)
+  fed-line m e = stands (bufferAfter buffer p b) (nextOf q b) m (answer-right (Line m) e)
 
   pub fed-long : fedOf p b ≡ Long → IsLong (nextOf q b)
-  fed-long e = is-long (bufferAfter buffer p b) (nextOf q b) (right Long e)
+  fed-long e = is-long (bufferAfter buffer p b) (nextOf q b) (answer-right Long e)
 
 -- the same of one byte of an input
 pub ended-one : (q : List ℕ) (b : ℕ) → endedIn q (b ∷ []) ≡ endedBy (nextOf q b)
 unfolding endedIn
 ended-one q b = refl
 
-pub pending-one : (q : List ℕ) (b : ℕ) → pendingAfter q (b ∷ []) ≡ leftBy (nextOf q b)
-unfolding pendingAfter
-pending-one q b = refl
+pub unended-one : (q : List ℕ) (b : ℕ) → unendedAfter q (b ∷ []) ≡ leftBy (nextOf q b)
+unfolding unendedAfter
+unended-one q b = refl

@@ -9,11 +9,11 @@ use borrow.Author.Tests.{lt-ltb, le-ltb, ne-eqb, leb-true, leb-false, eqb-true, 
 use lib.ListN.{length, take, set, length-append}
 use lib.Seq.{take-suc-set, take-take}
 use lib.Dec.{eqb, ltb, leb}
-use Rattle.lines.specs.declared.Pending.{Pending}
+use Rattle.lines.specs.declared.Unended.{Unended}
 use Rattle.lines.specs.declared.Fed.{Fed}
 use Rattle.lines.specs.declared.Fed.the-variants.{More, Line, Long}
 use Rattle.lines.specs.Lines.{lastOf, initOf, endsLine, more, line, nextOf}
-use Rattle.lines.specs.Held.{Held, FedIs, LastIs, endedOf, moreOf, fedOf, bufferAfter, finishOf}
+use Rattle.lines.specs.Held.{Held, nothing, FedIs, LastIs, endedOf, moreOf, fedOf, bufferAfter, finishOf}
 use Rattle.lines.proofs.Ends.{ends-cr, last-snoc, last-none, length-init, next-more, next-line}
 
 le-or-by : (m n : ℕ) (b : Bool) → leb m n ≡ b → (m ≤ n) ⊎ (n < m)
@@ -38,7 +38,7 @@ module _ (len : ℕ) where
   ended-line z h = rw (ne-eqb len 0 z, le-ltb 81 len h)
 
 -- a byte, by what it does to the held line
-module _ (q buffer : List ℕ) (p : Pending) (b : ℕ) (room : 81 ≤ length buffer) (h : Held q buffer p) where
+module _ (q buffer : List ℕ) (p : Unended) (b : ℕ) (room : 81 ≤ length buffer) (h : Held q buffer p) where
   held-in-len : p .len < 81 → length q ≤ 81
   held-in-len g = ⊎-elim (λ l. l) (λ l. let e : p .len ≡ 82 = h .long l in absurd (omega arith)) (le-or (length q) 81)
 
@@ -121,7 +121,7 @@ module _ (q buffer : List ℕ) (p : Pending) (b : ℕ) (room : 81 ≤ length buf
       by false e = rw (next-more q b (same false e), e) (fed-more e)
 
 -- the end of the input
-module _ (q buffer : List ℕ) (p : Pending) (h : Held q buffer p) where
+module _ (q buffer : List ℕ) (p : Unended) (h : Held q buffer p) where
   last-empty : p .len ≡ 0 → q ≡ []
   last-empty e =
       ⊎-elim (λ l. let s = h .short l in empty q (omega (arith, s .0))) (λ l. let k = h .long l in absurd (omega (arith, k))) (le-or (length q) 81)
@@ -151,9 +151,9 @@ module _ (q buffer : List ℕ) (p : Pending) (h : Held q buffer p) where
       by false e false f = rw (e, f) (last-line (eqb-false (p .len) 0 e) (ltb-false 80 (p .len) f))
 
 -- nothing is held at first
-pub held-none : (buffer : List ℕ) (p : Pending) → p .len ≡ 0 → p .last ≡ 0 → Held [] buffer p
+pub held-none : (buffer : List ℕ) → Held [] buffer nothing
 unfolding lastOf
-held-none buffer p e l = record { ends = l; short = λ _. (e, refl); long = λ h. absurd (omega arith) }
+held-none buffer = record { ends = refl; short = λ _. (refl, refl); long = λ h. absurd (omega arith) }
 
 -- a line that is told stands within the buffer
 abbrev pub Within : Fed → Type 0
@@ -178,7 +178,7 @@ within-more len b = by (ltb len 81)
     by true = tt
     by false = tt
 
-pub within-fed : (p : Pending) (b : ℕ) → Within (fedOf p b)
+pub within-fed : (p : Unended) (b : ℕ) → Within (fedOf p b)
 unfolding fedOf
 within-fed p b = by (endsLine (p .last) b)
   where
@@ -186,7 +186,7 @@ within-fed p b = by (endsLine (p .last) b)
     by true = within-ended (p .len)
     by false = within-more (p .len) b
 
-pub within-finish : (p : Pending) → Within (finishOf p)
+pub within-finish : (p : Unended) → Within (finishOf p)
 unfolding finishOf
 within-finish p = by (eqb (p .len) 0) (ltb 80 (p .len)) refl
   where

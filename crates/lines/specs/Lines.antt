@@ -31,9 +31,9 @@ abbrev pub linesAt : Next → (List ℕ → List (List ℕ)) → List (List ℕ)
 linesAt (more q) go = go q
 linesAt (line k) go = k ∷ go []
 
-abbrev pub pendingAt : Next → (List ℕ → List ℕ) → List ℕ
-pendingAt (more q) go = go q
-pendingAt (line k) go = go []
+abbrev pub unendedAt : Next → (List ℕ → List ℕ) → List ℕ
+unendedAt (more q) go = go q
+unendedAt (line k) go = go []
 
 -- of q ++ input, where q is not ended: the lines that end in the input, and the line that is not ended behind it
 unfoldable pub endedIn : List ℕ → List ℕ → List (List ℕ)
@@ -41,10 +41,10 @@ unfolding nextOf
 endedIn q [] = []
 endedIn q (b ∷ input) = linesAt (nextOf q b) (λ p. endedIn p input)
 
-unfoldable pub pendingAfter : List ℕ → List ℕ → List ℕ
+unfoldable pub unendedAfter : List ℕ → List ℕ → List ℕ
 unfolding nextOf
-pendingAfter q [] = q
-pendingAfter q (b ∷ input) = pendingAt (nextOf q b) (λ p. pendingAfter p input)
+unendedAfter q [] = q
+unendedAfter q (b ∷ input) = unendedAt (nextOf q b) (λ p. unendedAfter p input)
 
 -- "The last may lack it": what is left at the end is a line where it has a byte
 abbrev pub lastLine : List ℕ → List (List ℕ)
@@ -52,5 +52,5 @@ lastLine q = cond (eqb (length q) 0) [] (q ∷ [])
 
 -- all lines of an input
 unfoldable pub linesOf : List ℕ → List (List ℕ)
-unfolding endedIn pendingAfter
-linesOf input = endedIn [] input ++ lastLine (pendingAfter [] input)
+unfolding endedIn unendedAfter
+linesOf input = endedIn [] input ++ lastLine (unendedAfter [] input)

@@ -3,17 +3,17 @@ ghost use mathlib.Core.Path.{_≡_};
 ghost use Prim.Native.Nat.{_≤_};
 ghost use lib.ListN.{length};
 ghost use Rattle.lines.specs.Lines.{endsLine};
-ghost use Rattle.lines.specs.Held.{endedOf, fedOf, bufferAfter, finishOf};
+ghost use Rattle.lines.specs.Held.{nothing, endedOf, fedOf, bufferAfter, finishOf};
 
 // The line that is not ended yet: how many bytes it has, at most 82, and the last of them, 0 where there is none.
-pub struct Pending {
+pub struct Unended {
     pub len: usize,
     pub last: u8,
 }
 
 pub enum Fed {
     // The line goes on.
-    More(Pending),
+    More(Unended),
     // A line of so many bytes, which stand in the buffer.
     Line(usize),
     // A line of more than 80 bytes.
@@ -21,12 +21,13 @@ pub enum Fed {
 }
 
 // Nothing yet.
-pub fn none() -> Pending
-    ensures { λ r. ⌜ (r .len ≡ 0) × (r .last ≡ 0) ⌝ }
+pub fn none() -> Unended
+    ensures { λ r. ⌜ r ≡ nothing ⌝ }
 {
-    Pending { len: 0, last: 0 }
+    Unended { len: 0, last: 0 }
 }
 
+// A line that ended. No held line has 0 bytes there: its CR is one of them.
 fn ended(len: usize) -> Fed
     ensures { λ r. ⌜ r ≡ endedOf len ⌝ }
 {
@@ -46,7 +47,7 @@ fn ends_line(last: u8, b: u8) -> bool
 }
 
 // One byte more. The buffer holds the first 81 bytes of the line.
-pub fn feed(line: &mut [u8], p: Pending, b: u8) -> Fed
+pub fn feed(line: &mut [u8], p: Unended, b: u8) -> Fed
     requires { ⌜ 81 ≤ length (now line) ⌝ }
     ensures { λ r. ⌜ (r ≡ fedOf p b) × (now (line .exit) ≡ bufferAfter (now (line .entry)) p b) ⌝ }
 {
@@ -57,16 +58,16 @@ pub fn feed(line: &mut [u8], p: Pending, b: u8) -> Fed
     }
     if len < 81 {
         line[len] = b;
-        return Fed::More(Pending {
+        return Fed::More(Unended {
             len: len + 1,
             last: b,
         });
     }
-    Fed::More(Pending { len: 82, last: b })
+    Fed::More(Unended { len: 82, last: b })
 }
 
 // The input has ended: what is left is a line without its CR LF.
-pub fn finish(p: Pending) -> Fed
+pub fn finish(p: Unended) -> Fed
     ensures { λ r. ⌜ r ≡ finishOf p ⌝ }
 {
     let len = p.len;

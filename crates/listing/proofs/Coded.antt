@@ -8,6 +8,7 @@ use lib.ListN.{length}
 use Rattle.cbor.proofs.Apart.{Free}
 use Rattle.cbor.specs.Code.{Here, Nowhere}
 use Rattle.cells.specs.declared.Cell.{Cell}
+use Rattle.text.specs.Text.{Without, ended}
 use Rattle.text.specs.declared.number.Whole.{Whole}
 use Rattle.words.proofs.Places.{lt-or-ge}
 use Rattle.answers.specs.Answer.{answerLine, answerText, cellText}
@@ -15,13 +16,13 @@ use Rattle.coding.specs.Image.{NumberAllowed}
 use Rattle.coding.specs.Item.{CellAllowed}
 use Rattle.coding.specs.declared.cell.Meant.the-variants.{Means, NoCell}
 use Rattle.listing.specs.Shown.{cellLine, numberLine, numberRecord}
-use Rattle.listing.specs.Texts.{EndsAt, LineText, Plain, cellFrom, ended, numberFrom}
+use Rattle.listing.specs.Texts.{EndsAt, LineText, cellFrom, numberFrom}
 use Rattle.listing.proofs.Cuts.{first-end}
 use Rattle.listing.proofs.Exactly.{CellIs, NumberIs, cell-complete, cell-sound, number-complete, number-sound}
 use Rattle.listing.proofs.PlainText.{cell-line-text, number-line-text}
 
 -- of two lines whose texts have no CR, none begins the other
-ended-same : (t u q r : List ℕ) → Plain t → Plain u → ended t ++ q ≡ ended u ++ r → t ≡ u
+ended-same : (t u q r : List ℕ) → Without 13 t → Without 13 u → ended t ++ q ≡ ended u ++ r → t ≡ u
 ended-same t u q r p o e = ⊎-elim
     (λ l. sym (first-end t u q r o (omega arith) e))
     (λ g. first-end u t r q p g (sym e))
@@ -29,27 +30,27 @@ ended-same t u q r p o e = ⊎-elim
 
 module _ {A : Type 0} (f K : A → List ℕ) (Ok : A → Type 0) (form : (a : A) → f a ≡ ended (K a)) (text : (a : A) → Ok a → LineText (K a)) where
   -- no line is here, so none of a value
-  pub line-none : (s : List ℕ) (p : ℕ) → Nowhere ended LineText s p → Nowhere f Ok s p
+  line-none : (s : List ℕ) (p : ℕ) → Nowhere ended LineText s p → Nowhere f Ok s p
   line-none s p n a r ok e = n (K a) r (text a ok) (e ∙ ap (λ (l : List ℕ). l ++ r) (form a))
 
   module _ (s : List ℕ) (p : ℕ) (t : List ℕ) (n : ℕ) (E : EndsAt s p t n) where
     -- the line that is here is no value's
-    pub line-other : ((a : A) → Ok a → t ≡ K a → ⊥) → Nowhere f Ok s p
+    line-other : ((a : A) → Ok a → t ≡ K a → ⊥) → Nowhere f Ok s p
     line-other q a r ok e = q a ok (sym (E .only (K a) r (text a ok .plain) (e ∙ ap (λ (l : List ℕ). l ++ r) (form a))))
 
     -- it is one's
-    pub line-one : (a : A) → Ok a → t ≡ K a → Here f Ok s p a n
+    line-one : (a : A) → Ok a → t ≡ K a → Here f Ok s p a n
     line-one a ok e = (ok, rw (form a, sym e) (E .here))
 
   -- where the values' texts differ, no line begins another
-  pub line-free : ((a b : A) → Ok a → Ok b → K a ≡ K b → a ≡ b) → Free f Ok
+  line-free : ((a b : A) → Ok a → Ok b → K a ≡ K b → a ≡ b) → Free f Ok
   line-free inj a b r q oa ob e =
       let d = ap (λ (l : List ℕ). l ++ r) (sym (form a)) ∙ e ∙ ap (λ (l : List ℕ). l ++ q) (form b) in
       let k = ended-same (K a) (K b) r q (text a oa .plain) (text b ob .plain) d in
       (inj a b oa ob k, append-cancel-left (ended (K b)) r q (ap (λ (l : List ℕ). ended l ++ r) (sym k) ∙ d))
 
 -- the lines of cells
-pub cell-form : (c : Cell) → cellLine c ≡ ended (cellText c)
+cell-form : (c : Cell) → cellLine c ≡ ended (cellText c)
 unfolding answerLine answerText
 cell-form c = refl
 
@@ -73,7 +74,7 @@ cell-line-free = line-free cellLine cellText CellAllowed cell-form cell-line-tex
     same a b q = cc
 
 -- the lines of numbers
-pub number-form : (k : ℕ) → numberLine k ≡ ended (numberRecord k)
+number-form : (k : ℕ) → numberLine k ≡ ended (numberRecord k)
 unfolding numberLine
 number-form k = refl
 

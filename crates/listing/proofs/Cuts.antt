@@ -9,9 +9,9 @@ use borrow.Author.Tests.{eqb-true}
 use lib.Dec.{eqb}
 use lib.ListN.{drop, getD, length, length-append, take}
 use lib.Seq.{getD-append-seam, length-take-le, split-at, take-all, take-at, take-suc}
+use Rattle.text.specs.Text.{Without, ended}
 use Rattle.lines.specs.Lines.{endsLine, initOf, lastOf}
 use Rattle.lines.proofs.Ends.{ends-cr, ends-lf, last-snoc}
-use Rattle.listing.specs.Texts.{Plain, ended}
 
 -- an LF ends a line, and only behind a CR
 ends-by : (last b : ℕ) (t : Bool) → eqb b 10 ≡ t → endsLine last b ≡ true → b ≡ 10
@@ -23,7 +23,7 @@ ends-is : (last b : ℕ) → endsLine last b ≡ true → b ≡ 10
 ends-is last b h = ends-by last b (eqb b 10) refl h
 
 -- the first of two lines whose text has no CR
-pub first-end : (u t q r : List ℕ) → Plain t → length u ≤ length t → ended u ++ q ≡ ended t ++ r → t ≡ u
+pub first-end : (u t q r : List ℕ) → Without 13 t → length u ≤ length t → ended u ++ q ≡ ended t ++ r → t ≡ u
 first-end [] [] q r p h e = refl
 first-end [] (x ∷ t) q r p h e = absurd (p .0 (sym (head-eq-of-cons-eq e)))
 first-end (y ∷ u) [] q r p h e = absurd (omega arith)
@@ -33,8 +33,8 @@ ended-split : (t r : List ℕ) → ended t ++ r ≡ (t ++ (13 ∷ [])) ++ (10 �
 ended-split t r = append-assoc t (13 ∷ 10 ∷ []) r ∙ sym (append-assoc t (13 ∷ []) (10 ∷ r))
 
 -- no text without a CR ended before byte k
-abbrev pub Unended : List ℕ → ℕ → Type 0
-Unended d k = (t r : List ℕ) → Plain t → d ≡ ended t ++ r → k ≤ length t + 1
+abbrev pub NoneEndedBefore : List ℕ → ℕ → Type 0
+NoneEndedBefore d k = (t r : List ℕ) → Without 13 t → d ≡ ended t ++ r → k ≤ length t + 1
 
 init-last : (q : List ℕ) → lastOf q ≡ 13 → q ≡ initOf q ++ (13 ∷ [])
 unfolding lastOf initOf
@@ -46,7 +46,7 @@ init-last (b ∷ q) e =
 
 module _ (d : List ℕ) (k : ℕ) (below : k < length d) where
   -- the byte goes on with the line
-  pub goes-on : Unended d k → endsLine (lastOf (take k d)) (getD d k 0) ≡ false → Unended d (k + 1)
+  pub goes-on : NoneEndedBefore d k → endsLine (lastOf (take k d)) (getD d k 0) ≡ false → NoneEndedBefore d (k + 1)
   goes-on U f t r p e = by (decLt k (length t + 1))
     where
       split : d ≡ (t ++ (13 ∷ [])) ++ (10 ∷ r)
@@ -75,9 +75,9 @@ module _ (d : List ℕ) (k : ℕ) (below : k < length d) where
         ∙ ap (λ (n : ℕ). (initOf (take k d) ++ (13 ∷ [])) ++ (n ∷ drop (suc k) d)) (ends-is (lastOf (take k d)) (getD d k 0) f)
         ∙ sym (ended-split (initOf (take k d)) (drop (suc k) d))
 
-    pub only-text : Unended d k → (t r : List ℕ) → Plain t → d ≡ ended t ++ r → t ≡ initOf (take k d)
+    pub only-text : NoneEndedBefore d k → (t r : List ℕ) → Without 13 t → d ≡ ended t ++ r → t ≡ initOf (take k d)
     only-text U t r p e = first-end (initOf (take k d)) t (drop (suc k) d) r p (omega (arith, U t r p e, text-length)) (sym line-is ∙ e)
 
 -- all of the text was fed, and no line ended
-pub none-ended : (d : List ℕ) (k : ℕ) → length d ≤ k → Unended d k → (t r : List ℕ) → Plain t → d ≡ ended t ++ r → ⊥
+pub none-ended : (d : List ℕ) (k : ℕ) → length d ≤ k → NoneEndedBefore d k → (t r : List ℕ) → Without 13 t → d ≡ ended t ++ r → ⊥
 none-ended d k h U t r p e = omega (arith, U t r p e, ap length e, length-append (ended t) r, length-append t (13 ∷ 10 ∷ []))

@@ -1,36 +1,34 @@
 -- The walk of `line_from` over a text: what was fed of the line from a place on. Assumes nothing.
 use mathlib.Core.Bool.{Bool, true, false}
 use mathlib.Core.List.{List, [], _++_, _∷_}
-use mathlib.Core.Path.{_∙_, _≡_, ap, refl, subst}
+use mathlib.Core.Path.{_∙_, _≡_, ap, refl}
 use Prim.Native.Nat.{_+_, _-_, _<_, _≤_, suc, ℕ}
 use native.Mathlib.Omega.{arith}
 use lib.ListN.{drop, getD, length, length-append, length-drop, take}
 use lib.Seq.{drop-drop, getD-drop, take-suc}
 use Rattle.cbor.specs.Code.{Nowhere}
-use Rattle.lines.specs.Held.{FedIs, Held, bufferAfter, fedOf}
-use Rattle.lines.specs.Lines.{endsLine, initOf, lastOf, nextOf}
-use Rattle.lines.specs.declared.Fed.{Fed}
+use Rattle.text.specs.Text.{ended}
+use Rattle.lines.specs.Held.{Held, bufferAfter, fedOf, nothing}
+use Rattle.lines.specs.Lines.{endsLine, initOf, lastOf}
 use Rattle.lines.specs.declared.Fed.the-variants.{Line, Long, More}
-use Rattle.lines.specs.declared.Pending.{Pending}
+use Rattle.lines.specs.declared.Unended.{Unended}
 use Rattle.lines.proofs.Ends.{next-line, next-more}
-use Rattle.lines.proofs.Held.{fed-is, held-none}
-use Rattle.listing.specs.Texts.{EndsAt, LineText, ended}
-use Rattle.listing.proofs.Cuts.{Unended, goes-on, line-is, none-ended, only-text, text-length}
+use Rattle.lines.proofs.Feeding.{answer-right}
+use Rattle.lines.proofs.Held.{held-none}
+use Rattle.listing.specs.Texts.{EndsAt, LineText}
+use Rattle.listing.proofs.Cuts.{NoneEndedBefore, goes-on, line-is, none-ended, only-text, text-length}
 
 -- what an answer to a byte says of the line
-module _ (q line : List ℕ) (p : Pending) (b : ℕ) (room : 81 ≤ length line) (H : Held q line p) where
-  told : (a : Fed) → fedOf p b ≡ a → FedIs (nextOf q b) a (bufferAfter line p b)
-  told a e = subst (λ (x : Fed). FedIs (nextOf q b) x (bufferAfter line p b)) e (fed-is q line p b room H)
-
-  abbrev More·says : Pending → Type 0
+module _ (q line : List ℕ) (p : Unended) (b : ℕ) (room : 81 ≤ length line) (H : Held q line p) where
+  abbrev More·says : Unended → Type 0
   More·says r = (endsLine (lastOf q) b ≡ false) × Held (q ++ (b ∷ [])) (bufferAfter line p b) r
 
-  more-told : (r : Pending) → fedOf p b ≡ More r → More·says r
+  more-told : (r : Unended) → fedOf p b ≡ More r → More·says r
   more-told r e = by (endsLine (lastOf q) b) refl
     where
       by : (t : Bool) → endsLine (lastOf q) b ≡ t → More·says r
-      by true f = absurd (rw (next-line q b f) at (told (More r) e))
-      by false f = (f, rw (next-more q b f) at (told (More r) e))
+      by true f = absurd (rw (next-line q b f) at (answer-right q line p b room H (More r) e))
+      by false f = (f, rw (next-more q b f) at (answer-right q line p b room H (More r) e))
 
   abbrev Line·says : ℕ → Type 0
   Line·says m = (endsLine (lastOf q) b ≡ true) × (m ≤ 80) × (take m (bufferAfter line p b) ≡ initOf q)
@@ -39,29 +37,29 @@ module _ (q line : List ℕ) (p : Pending) (b : ℕ) (room : 81 ≤ length line)
   line-told m e = by (endsLine (lastOf q) b) refl
     where
       by : (t : Bool) → endsLine (lastOf q) b ≡ t → Line·says m
-      by true f = let h = rw (next-line q b f) at (told (Line m) e) in (f, h .1, h .2)
-      by false f = absurd (rw (next-more q b f) at (told (Line m) e))
+      by true f = let h = rw (next-line q b f) at (answer-right q line p b room H (Line m) e) in (f, h .1, h .2)
+      by false f = absurd (rw (next-more q b f) at (answer-right q line p b room H (Line m) e))
 
   long-told : fedOf p b ≡ Long → (endsLine (lastOf q) b ≡ true) × (80 < length (initOf q))
   long-told e = by (endsLine (lastOf q) b) refl
     where
       by : (t : Bool) → endsLine (lastOf q) b ≡ t → (endsLine (lastOf q) b ≡ true) × (80 < length (initOf q))
-      by true f = (f, rw (next-line q b f) at (told Long e))
-      by false f = absurd (rw (next-more q b f) at (told Long e))
+      by true f = (f, rw (next-line q b f) at (answer-right q line p b room H Long e))
+      by false f = absurd (rw (next-more q b f) at (answer-right q line p b room H Long e))
 
 -- the bytes from `from` up to i are held, and no line ended there
-pub record Seen (s : List ℕ) (from i : ℕ) (line : List ℕ) (p : Pending) : Type 0 where
+pub record Seen (s : List ℕ) (from i : ℕ) (line : List ℕ) (p : Unended) : Type 0 where
   pub after : from ≤ i
   pub within : i ≤ length s
   pub holds : Held (take (i - from) (drop from s)) line p
-  pub unended : Unended (drop from s) (i - from)
+  pub unended : NoneEndedBefore (drop from s) (i - from)
 
-pub seen-none : (s : List ℕ) (from : ℕ) (line : List ℕ) (p : Pending) → from ≤ length s → p .len ≡ 0 → p .last ≡ 0 → Seen s from from line p
-seen-none s from line p h a b =
+pub seen-none : (s : List ℕ) (from : ℕ) (line : List ℕ) (p : Unended) → from ≤ length s → p ≡ nothing → Seen s from from line p
+seen-none s from line p h e =
     let z : from - from ≡ 0 = omega arith in
-    record { after = omega arith; within = h; holds = rw z (held-none line p a b); unended = λ t r n e. omega arith }
+    record { after = omega arith; within = h; holds = rw (z, e) (held-none line); unended = λ t r n e. omega arith }
 
-module _ (s : List ℕ) (from i : ℕ) (line : List ℕ) (p : Pending) (room : 81 ≤ length line) (S : Seen s from i line p) (below : i < length s) where
+module _ (s : List ℕ) (from i : ℕ) (line : List ℕ) (p : Unended) (room : 81 ≤ length line) (S : Seen s from i line p) (below : i < length s) where
   there : i - from < length (drop from s)
   there = omega (arith, length-drop from s, S .after)
 
@@ -77,7 +75,7 @@ module _ (s : List ℕ) (from i : ℕ) (line : List ℕ) (p : Pending) (room : 8
   tests : {t : Bool} → endsLine (lastOf (take (i - from) (drop from s))) (getD s i 0) ≡ t → endsLine (lastOf (take (i - from) (drop from s))) (getD (drop from s) (i - from) 0) ≡ t
   tests e = ap (endsLine (lastOf (take (i - from) (drop from s)))) byte ∙ e
 
-  pub seen-more : (r : Pending) → fedOf p (getD s i 0) ≡ More r → Seen s from (i + 1) (bufferAfter line p (getD s i 0)) r
+  pub seen-more : (r : Unended) → fedOf p (getD s i 0) ≡ More r → Seen s from (i + 1) (bufferAfter line p (getD s i 0)) r
   seen-more r e =
       let m = more-told (take (i - from) (drop from s)) line p (getD s i 0) room (S .holds) r e in
       let q : take (i + 1 - from) (drop from s) ≡ take (i - from) (drop from s) ++ (getD s i 0 ∷ []) =
@@ -114,5 +112,5 @@ module _ (s : List ℕ) (from i : ℕ) (line : List ℕ) (p : Pending) (room : 8
       let u = only-text (drop from s) (i - from) there (tests (l .0)) (S .unended) t r (ok .plain) d in
       omega (arith, l .1, ok .short, ap length u)
 
-pub seen-all : (s : List ℕ) (from i : ℕ) (line : List ℕ) (p : Pending) → Seen s from i line p → length s ≤ i → Nowhere ended LineText s from
+pub seen-all : (s : List ℕ) (from i : ℕ) (line : List ℕ) (p : Unended) → Seen s from i line p → length s ≤ i → Nowhere ended LineText s from
 seen-all s from i line p S h t r ok d = none-ended (drop from s) (i - from) (omega (arith, length-drop from s, S .after)) (S .unended) t r (ok .plain) d

@@ -1,4 +1,4 @@
--- The text of an image: a line for each cell, as an answer prints it, then a line for each device's number. Assumes nothing.
+-- Beyond document 01: an image as text (docs/DECISIONS.md, "The stored image"). The text of an image: a line for each cell, as an answer prints it, then a line for each device's number. Assumes nothing.
 use mathlib.Core.List.{List, [], _∷_, _++_}
 use mathlib.Core.Path.{_≡_}
 use Prim.Native.Nat.{ℕ, _≤_}
@@ -8,7 +8,7 @@ use Rattle.cells.specs.declared.Cell.{Cell}
 use Rattle.protocol.specs.declared.Refusal.the-variants.{NoImage}
 use Rattle.sheet.specs.declared.Answer.the-variants.{Value, Refused}
 use Rattle.text.specs.Field.{recordOf}
-use Rattle.text.specs.Text.{Put, decimalText}
+use Rattle.text.specs.Text.{Put, decimalText, ended}
 use Rattle.answers.specs.Answer.{answerLine}
 use Rattle.coding.specs.Image.{imageOf, Allowed, NotImage}
 
@@ -26,7 +26,7 @@ numberRecord k = recordOf numberText (decimalText k ∷ [])
 
 unfoldable pub numberLine : ℕ → List ℕ
 unfolding numberRecord
-numberLine k = numberRecord k ++ (13 ∷ 10 ∷ [])
+numberLine k = ended (numberRecord k)
 
 unfoldable pub imageText : List Cell → List ℕ → List ℕ
 imageText cells numbers = each cellLine cells ++ each numberLine numbers

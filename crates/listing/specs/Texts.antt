@@ -1,6 +1,6 @@
--- The lines of an image's text, one by one: where a line ends, and which text is a cell or a number. Assumes nothing.
+-- Beyond document 01: an image as text (docs/DECISIONS.md, "The stored image"). The lines of an image's text, one by one: where a line ends, and which text is a cell or a number. Assumes nothing.
 use mathlib.Core.Bool.{cond}
-use mathlib.Core.List.{List, [], _∷_, _++_}
+use mathlib.Core.List.{List, _++_}
 use mathlib.Core.Path.{_≡_}
 use Prim.Native.Nat.{ℕ, _≤_}
 use lib.Dec.{eqb}
@@ -14,9 +14,10 @@ use Rattle.cells.specs.Finite.{finiteWord}
 use Rattle.cells.specs.declared.Cell.the-variants.{Blank, Count, Measure}
 use Rattle.text.specs.Field.{commasOf, fieldOf, sameAs}
 use Rattle.text.specs.Number.{onWhole, decimalOf, signedOf, bitsOf}
+use Rattle.text.specs.Text.{Without, ended}
 use Rattle.text.specs.declared.number.Whole.{Whole}
-use Rattle.wording.specs.Values.{onSigned, wordOf}
-use Rattle.wording.specs.declared.values.Word.{Word}
+use Rattle.wording.specs.Values.{onSigned, updateNameOf}
+use Rattle.wording.specs.declared.values.UpdateName.{UpdateName}
 use Rattle.coding.specs.Image.{NumberAllowed}
 use Rattle.coding.specs.Item.{CellAllowed}
 use Rattle.coding.specs.declared.cell.Meant.{Meant}
@@ -27,24 +28,15 @@ use Rattle.listing.specs.Shown.{cellLine, numberText, numberLine}
 use Rattle.listing.specs.declared.line.LineRead.{LineRead}
 use Rattle.listing.specs.declared.line.LineRead.the-variants.{Ends, NoLine}
 
--- a text and the CR LF that ends its line
-abbrev pub ended : List ℕ → List ℕ
-ended t = t ++ (13 ∷ 10 ∷ [])
-
--- a text without a CR
-abbrev pub Plain : List ℕ → Type 0
-Plain [] = Unit {0}
-Plain (b ∷ t) = (b ≡ 13 → ⊥) × Plain t
-
 -- the texts of lines: without a CR, and of at most 80 bytes
 pub record LineText (t : List ℕ) : Type 0 where
-  pub plain : Plain t
+  pub plain : Without 13 t
   pub short : length t ≤ 80
 
 -- t is the text of the line from p up to n, and no other text without a CR is
 pub record EndsAt (s : List ℕ) (p : ℕ) (t : List ℕ) (n : ℕ) : Type 0 where
   pub here : Got s p (ended t) n
-  pub only : (u r : List ℕ) → Plain u → drop p s ≡ ended u ++ r → u ≡ t
+  pub only : (u r : List ℕ) → Without 13 u → drop p s ≡ ended u ++ r → u ≡ t
 
 -- the line from p on, its text at the buffer's front, or that no line is there
 abbrev pub LineReadIs : List ℕ → ℕ → List ℕ → LineRead → Type 0
@@ -63,19 +55,19 @@ unfoldable pub measureOf : List ℕ → Meant
 unfolding finiteOf
 measureOf f = onWhole NoCell (bitsOf f) finiteOf
 
--- the cell by its word, of a text with n commas
-unfoldable pub cellBy : Word → ℕ → List ℕ → Meant
+-- the cell by its name, of a text with n commas
+unfoldable pub cellBy : UpdateName → ℕ → List ℕ → Meant
 unfolding countOf measureOf
-cellBy Word.Blank n t = cond (eqb n 0) (Means Blank) NoCell
-cellBy Word.Count n t = cond (eqb n 1) (countOf (fieldOf 1 t)) NoCell
-cellBy Word.Measure n t = cond (eqb n 1) (measureOf (fieldOf 1 t)) NoCell
-cellBy Word.Add n t = NoCell
-cellBy Word.Unknown n t = NoCell
+cellBy UpdateName.Blank n t = cond (eqb n 0) (Means Blank) NoCell
+cellBy UpdateName.Count n t = cond (eqb n 1) (countOf (fieldOf 1 t)) NoCell
+cellBy UpdateName.Measure n t = cond (eqb n 1) (measureOf (fieldOf 1 t)) NoCell
+cellBy UpdateName.Add n t = NoCell
+cellBy UpdateName.Unknown n t = NoCell
 
 -- the cell that a text is; `proofs/Exactly.antt` shows that it finds exactly the texts of cells
 unfoldable pub cellFrom : List ℕ → Meant
 unfolding cellBy
-cellFrom t = cellBy (wordOf (fieldOf 0 t)) (commasOf t) t
+cellFrom t = cellBy (updateNameOf (fieldOf 0 t)) (commasOf t) t
 
 -- the number that a text is, in the same way
 unfoldable pub numberFrom : List ℕ → Whole

@@ -14,8 +14,8 @@ use text::number::Whole;
 use text::number::bits;
 use text::number::decimal;
 use text::number::signed_decimal;
-use wording::values::Word;
-use wording::values::word_of;
+use wording::values::UpdateName;
+use wording::values::update_name_of;
 use words::layout::MOST_PUSHES;
 ghost use mathlib.Core.Path.{_≡_};
 ghost use Prim.Native.Nat.{_≤_};
@@ -80,30 +80,30 @@ fn cell_from(t: &[u8]) -> Meant
     ensures { λ r. ⌜ r ≡ cellFrom (now (t .entry)) ⌝ }
 {
     let n = commas(t);
-    match word_of(field(t, 0)) {
-        Word::Blank => {
+    match update_name_of(field(t, 0)) {
+        UpdateName::Blank => {
             if n == 0 {
                 Meant::Means(Cell::Blank)
             } else {
                 Meant::NoCell
             }
         }
-        Word::Count => {
+        UpdateName::Count => {
             if n == 1 {
                 count_of(field(t, 1))
             } else {
                 Meant::NoCell
             }
         }
-        Word::Measure => {
+        UpdateName::Measure => {
             if n == 1 {
                 measure_of(field(t, 1))
             } else {
                 Meant::NoCell
             }
         }
-        Word::Add => Meant::NoCell,
-        Word::Unknown => Meant::NoCell,
+        UpdateName::Add => Meant::NoCell,
+        UpdateName::Unknown => Meant::NoCell,
     }
 }
 

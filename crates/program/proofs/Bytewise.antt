@@ -12,19 +12,19 @@ use Rattle.protocol.specs.Machine.{Table, refused}
 use Rattle.sheet.specs.Sheet.{sheet}
 use Rattle.sheet.specs.Answer.{written}
 use Rattle.sheet.specs.declared.Answer.{Answer}
-use Rattle.lines.specs.Lines.{endsLine, nextOf, endedIn, pendingAfter}
-use Rattle.lines.specs.Held.{Held, fedOf, bufferAfter}
-use Rattle.lines.specs.declared.Pending.{Pending}
+use Rattle.lines.specs.Lines.{endsLine, nextOf, endedIn, unendedAfter}
+use Rattle.lines.specs.Held.{Held, nothing, fedOf, bufferAfter}
+use Rattle.lines.specs.declared.Unended.{Unended}
 use Rattle.lines.specs.declared.Fed.{Fed}
 use Rattle.lines.specs.declared.Fed.the-variants.{More, Line, Long}
 use Rattle.lines.proofs.Held.{held-none}
-use Rattle.lines.proofs.Chunks.{pending-append, ended-append}
-use Rattle.lines.proofs.Feeding.{endedBy, leftBy, fed-more, fed-line, fed-long, ended-one, pending-one}
+use Rattle.lines.proofs.Chunks.{unended-append, ended-append}
+use Rattle.lines.proofs.Feeding.{endedBy, leftBy, fed-more, fed-line, fed-long, ended-one, unended-one}
 use Rattle.answers.specs.Answer.{answerLine}
 use Rattle.steps.proofs.Exactly.{long-line}
 use Rattle.steps.specs.declared.parse.Step.{Step}
 use Rattle.answering.specs.Program.{Reply, asked, replyTo, devicesOf, answerTo, answersTo, tableAfter}
-use Rattle.stepping.specs.Bytes.{Place, nothing, Told, heldBy, ByteFed}
+use Rattle.stepping.specs.Bytes.{Standing, Told, heldBy, ByteFed}
 use Rattle.program.specs.Claims.{Holds, Fed·as·the·machine, Feeds·as·the·machine}
 use Rattle.program.proofs.Replies.{answers-as-the-machine}
 
@@ -36,7 +36,7 @@ answers-append s (line ∷ a) b =
     ap (λ (l : List ℕ). answerLine (written (answerTo s line .answer)) ++ l) (answers-append (answerTo s line .table) a b)
     ∙ sym (append-assoc (answerLine (written (answerTo s line .answer))) (answersTo (answerTo s line .table) a) (answersTo (tableAfter (answerTo s line .table) a) b))
 
-pub table-append : (s : Option (Table sheet)) (a b : List (List ℕ)) → tableAfter s (a ++ b) ≡ tableAfter (tableAfter s a) b
+table-append : (s : Option (Table sheet)) (a b : List (List ℕ)) → tableAfter s (a ++ b) ≡ tableAfter (tableAfter s a) b
 unfolding tableAfter
 table-append s [] b = refl
 table-append s (line ∷ a) b = table-append (answerTo s line .table) a b
@@ -69,7 +69,7 @@ module _ (s : Option (Table sheet)) (xs text ys : List ℕ) (H : Holds s xs) whe
   }
 
 -- the buffer keeps its length
-buffer-length : (buffer : List ℕ) (p : Pending) (b : ℕ) → length (bufferAfter buffer p b) ≡ length buffer
+buffer-length : (buffer : List ℕ) (p : Unended) (b : ℕ) → length (bufferAfter buffer p b) ≡ length buffer
 unfolding bufferAfter
 buffer-length buffer p b = by (endsLine (p .last) b) (ltb (p .len) 81)
   where
@@ -79,50 +79,50 @@ buffer-length buffer p b = by (endsLine (p .last) b) (ltb (p .len) 81)
     by false false = refl
 
 -- one byte
-module _ (s : Option (Table sheet)) (q : List ℕ) (x : Place) (b : ℕ) (text : List ℕ) (y : Place) (room : 81 ≤ length (x .buffer)) (h : Held q (x .buffer) (x .pending)) (H : Holds s (x .words)) (B : ByteFed x b text y) where
+module _ (s : Option (Table sheet)) (q : List ℕ) (x : Standing) (b : ℕ) (text : List ℕ) (y : Standing) (room : 81 ≤ length (x .buffer)) (h : Held q (x .buffer) (x .unended)) (H : Holds s (x .words)) (B : ByteFed x b text y) where
   pub record Byte·is : Type 0 where
     pub replied : Replied s (endedIn q (b ∷ [])) text (y .words)
-    pub held : Held (pendingAfter q (b ∷ [])) (y .buffer) (y .pending)
+    pub held : Held (unendedAfter q (b ∷ [])) (y .buffer) (y .unended)
 
-  told : (f : Fed) → fedOf (x .pending) b ≡ f → Told f (bufferAfter (x .buffer) (x .pending) b) (x .words) text (y .words)
-  told f e = subst (λ (g : Fed). Told g (bufferAfter (x .buffer) (x .pending) b) (x .words) text (y .words)) e (subst (λ (l : List ℕ). Told (fedOf (x .pending) b) l (x .words) text (y .words)) (B .buffer) (B .told))
+  told : (f : Fed) → fedOf (x .unended) b ≡ f → Told f (bufferAfter (x .buffer) (x .unended) b) (x .words) text (y .words)
+  told f e = subst (λ (g : Fed). Told g (bufferAfter (x .buffer) (x .unended) b) (x .words) text (y .words)) e (subst (λ (l : List ℕ). Told (fedOf (x .unended) b) l (x .words) text (y .words)) (B .buffer) (B .told))
 
-  holding : (f : Fed) → fedOf (x .pending) b ≡ f → Held (leftBy (nextOf q b)) (bufferAfter (x .buffer) (x .pending) b) (heldBy f) → Held (pendingAfter q (b ∷ [])) (y .buffer) (y .pending)
-  holding f e g = rw (pending-one q b, B .buffer, B .pending, e) g
+  holding : (f : Fed) → fedOf (x .unended) b ≡ f → Held (leftBy (nextOf q b)) (bufferAfter (x .buffer) (x .unended) b) (heldBy f) → Held (unendedAfter q (b ∷ [])) (y .buffer) (y .unended)
+  holding f e g = rw (unended-one q b, B .buffer, B .unended, e) g
 
   saying : (lines : List (List ℕ)) → endedBy (nextOf q b) ≡ lines → Replied s lines text (y .words) → Replied s (endedIn q (b ∷ [])) text (y .words)
   saying lines e R = subst (λ (l : List (List ℕ)). Replied s l text (y .words)) (sym (ended-one q b ∙ e)) R
 
-  empty-held : leftBy (nextOf q b) ≡ [] → Held (leftBy (nextOf q b)) (bufferAfter (x .buffer) (x .pending) b) nothing
-  empty-held e = rw e (held-none (bufferAfter (x .buffer) (x .pending) b) nothing refl refl)
+  empty-held : leftBy (nextOf q b) ≡ [] → Held (leftBy (nextOf q b)) (bufferAfter (x .buffer) (x .unended) b) nothing
+  empty-held e = rw e (held-none (bufferAfter (x .buffer) (x .unended) b))
 
-  byte-by : (f : Fed) → fedOf (x .pending) b ≡ f → Byte·is
+  byte-by : (f : Fed) → fedOf (x .unended) b ≡ f → Byte·is
   byte-by (More r) e =
-      let g = fed-more q (x .buffer) (x .pending) b room h r e in
+      let g = fed-more q (x .buffer) (x .unended) b room h r e in
       let t = told (More r) e in
       record { replied = saying [] (g .none) (replied-none s (x .words) text (y .words) H (t .0) (t .1)); held = holding (More r) e (g .held) }
   byte-by (Line n) e =
-      let g = fed-line q (x .buffer) (x .pending) b room h n e in
+      let g = fed-line q (x .buffer) (x .unended) b room h n e in
       record {
-        replied = saying _ (g .ended) (replied-line s (x .words) text (y .words) H (take n (bufferAfter (x .buffer) (x .pending) b)) n (bufferAfter (x .buffer) (x .pending) b) refl (told (Line n) e));
+        replied = saying _ (g .ended) (replied-line s (x .words) text (y .words) H (take n (bufferAfter (x .buffer) (x .unended) b)) n (bufferAfter (x .buffer) (x .unended) b) refl (told (Line n) e));
         held = holding (Line n) e (empty-held (g .empty));
       }
   byte-by Long e =
-      let g = fed-long q (x .buffer) (x .pending) b room h e in
+      let g = fed-long q (x .buffer) (x .unended) b room h e in
       record {
-        replied = saying _ (g .ended) (replied-long s (x .words) text (y .words) H (g .text) (bufferAfter (x .buffer) (x .pending) b) (g .long) (told Long e));
+        replied = saying _ (g .ended) (replied-long s (x .words) text (y .words) H (g .text) (bufferAfter (x .buffer) (x .unended) b) (g .long) (told Long e));
         held = holding Long e (empty-held (g .empty));
       }
 
   pub byte-is : Byte·is
-  byte-is = byte-by (fedOf (x .pending) b) refl
+  byte-is = byte-by (fedOf (x .unended) b) refl
 
-  pub byte-room : 81 ≤ length (y .buffer)
-  byte-room = omega (arith, ap length (B .buffer), buffer-length (x .buffer) (x .pending) b)
+  byte-room : 81 ≤ length (y .buffer)
+  byte-room = omega (arith, ap length (B .buffer), buffer-length (x .buffer) (x .unended) b)
 
 -- a byte, and then others
-module _ (s : Option (Table sheet)) (q : List ℕ) (b : ℕ) (input first others text : List ℕ) (ys : List ℕ) (y : Place) where
-  and-then : text ≡ first ++ others → Replied s (endedIn q (b ∷ [])) first ys → Fed·as·the·machine (tableAfter s (endedIn q (b ∷ []))) (pendingAfter q (b ∷ [])) input others y → Fed·as·the·machine s q (b ∷ input) text y
+module _ (s : Option (Table sheet)) (q : List ℕ) (b : ℕ) (input first others text : List ℕ) (ys : List ℕ) (y : Standing) where
+  and-then : text ≡ first ++ others → Replied s (endedIn q (b ∷ [])) first ys → Fed·as·the·machine (tableAfter s (endedIn q (b ∷ []))) (unendedAfter q (b ∷ [])) input others y → Fed·as·the·machine s q (b ∷ input) text y
   and-then e R F =
       let lines = ended-append q (b ∷ []) input in
       record {
@@ -130,20 +130,20 @@ module _ (s : Option (Table sheet)) (q : List ℕ) (b : ℕ) (input first others
             e
             ∙ ap (λ (l : List ℕ). l ++ others) (R .text-is)
             ∙ ap (λ (l : List ℕ). answersTo s (endedIn q (b ∷ [])) ++ l) (F .text-is)
-            ∙ sym (answers-append s (endedIn q (b ∷ [])) (endedIn (pendingAfter q (b ∷ [])) input))
+            ∙ sym (answers-append s (endedIn q (b ∷ [])) (endedIn (unendedAfter q (b ∷ [])) input))
             ∙ ap (answersTo s) (sym lines);
-        holds = subst (λ (l : List (List ℕ)). Holds (tableAfter s l) (y .words)) (sym lines) (subst (λ (t : Option (Table sheet)). Holds t (y .words)) (sym (table-append s (endedIn q (b ∷ [])) (endedIn (pendingAfter q (b ∷ [])) input))) (F .holds));
-        held = subst (λ (l : List ℕ). Held l (y .buffer) (y .pending)) (sym (pending-append q (b ∷ []) input)) (F .held);
+        holds = subst (λ (l : List (List ℕ)). Holds (tableAfter s l) (y .words)) (sym lines) (subst (λ (t : Option (Table sheet)). Holds t (y .words)) (sym (table-append s (endedIn q (b ∷ [])) (endedIn (unendedAfter q (b ∷ [])) input))) (F .holds));
+        held = subst (λ (l : List ℕ). Held l (y .buffer) (y .unended)) (sym (unended-append q (b ∷ []) input)) (F .held);
         room = F .room;
       }
 
-nothing-fed : (s : Option (Table sheet)) (q : List ℕ) (x : Place) (text : List ℕ) (y : Place) → 81 ≤ length (x .buffer) → Held q (x .buffer) (x .pending) → Holds s (x .words) → text ≡ [] → y ≡ x → Fed·as·the·machine s q [] text y
-unfolding endedIn pendingAfter answersTo tableAfter
+nothing-fed : (s : Option (Table sheet)) (q : List ℕ) (x : Standing) (text : List ℕ) (y : Standing) → 81 ≤ length (x .buffer) → Held q (x .buffer) (x .unended) → Holds s (x .words) → text ≡ [] → y ≡ x → Fed·as·the·machine s q [] text y
+unfolding endedIn unendedAfter answersTo tableAfter
 nothing-fed s q x text y room h H e f = record {
   text-is = e;
-  holds = subst (λ (w : Place). Holds s (w .words)) (sym f) H;
-  held = subst (λ (w : Place). Held q (w .buffer) (w .pending)) (sym f) h;
-  room = subst (λ (w : Place). 81 ≤ length (w .buffer)) (sym f) room;
+  holds = subst (λ (w : Standing). Holds s (w .words)) (sym f) H;
+  held = subst (λ (w : Standing). Held q (w .buffer) (w .unended)) (sym f) h;
+  room = subst (λ (w : Standing). 81 ≤ length (w .buffer)) (sym f) room;
 }
 
 -- byte after byte
@@ -153,4 +153,4 @@ feeds-as-the-machine s q x (b ∷ input) text y room h H F =
     let B = byte-is s q x b (F .first) (F .between) room h H (F .does) in
     let r = byte-room s q x b (F .first) (F .between) room h H (F .does) in
     and-then s q b input (F .first) (F .others) text (F .between .words) y (F .both) (B .replied)
-    (feeds-as-the-machine (tableAfter s (endedIn q (b ∷ []))) (pendingAfter q (b ∷ [])) (F .between) input (F .others) y r (B .held) (B .replied .holds) (F .goes-on))
+    (feeds-as-the-machine (tableAfter s (endedIn q (b ∷ []))) (unendedAfter q (b ∷ [])) (F .between) input (F .others) y r (B .held) (B .replied .holds) (F .goes-on))

@@ -16,7 +16,7 @@ use Rattle.steps.specs.Parse.{parseLine}
 use Rattle.answers.specs.Answer.{answerLine}
 use Rattle.answering.specs.Program.{asked}
 use Rattle.answering.specs.Answered.{Small, StartedSmall}
-use Rattle.stepping.specs.Bytes.{Place, Told, ByteFed, BytesFed}
+use Rattle.stepping.specs.Bytes.{Standing, Told, ByteFed, BytesFed}
 use Rattle.program.specs.Claims.{One·answer, One·chunk, One·end}
 use lib.ListN.{getD, take}
 
@@ -37,18 +37,18 @@ told-once (Line n) buffer xs s ys t zs (a, A, e) (b, B, f) =
     (e ∙ ap answerLine (o .0) ∙ sym f, o .1)
 told-once Long buffer xs s ys t zs A B = (A .0 ∙ sym (B .0), A .1 ∙ sym (B .1))
 
-byte-once : (x : Place) (b : ℕ) (s : List ℕ) (y : Place) (t : List ℕ) (z : Place) → ByteFed x b s y → ByteFed x b t z → (s ≡ t) × (y ≡ z)
+byte-once : (x : Standing) (b : ℕ) (s : List ℕ) (y : Standing) (t : List ℕ) (z : Standing) → ByteFed x b s y → ByteFed x b t z → (s ≡ t) × (y ≡ z)
 byte-once x b s y t z A B =
     let e : z .buffer ≡ y .buffer = B .buffer ∙ sym (A .buffer) in
-    let p : y .pending ≡ z .pending = A .pending ∙ sym (B .pending) in
-    let o = told-once (fedOf (x .pending) b) (y .buffer) (x .words) s (y .words) t (z .words) (A .told) (subst (λ (l : List ℕ). Told (fedOf (x .pending) b) l (x .words) t (z .words)) e (B .told)) in
-    (o .0, λ i. record { buffer = sym e i; pending = p i; words = o .1 i })
+    let p : y .unended ≡ z .unended = A .unended ∙ sym (B .unended) in
+    let o = told-once (fedOf (x .unended) b) (y .buffer) (x .words) s (y .words) t (z .words) (A .told) (subst (λ (l : List ℕ). Told (fedOf (x .unended) b) l (x .words) t (z .words)) e (B .told)) in
+    (o .0, λ i. record { buffer = sym e i; unended = p i; words = o .1 i })
 
-bytes-once : (x : Place) (input s : List ℕ) (y : Place) (t : List ℕ) (z : Place) → BytesFed x input s y → BytesFed x input t z → (s ≡ t) × (y ≡ z)
+bytes-once : (x : Standing) (input s : List ℕ) (y : Standing) (t : List ℕ) (z : Standing) → BytesFed x input s y → BytesFed x input t z → (s ≡ t) × (y ≡ z)
 bytes-once x [] s y t z A B = (A .0 ∙ sym (B .0), A .1 ∙ sym (B .1))
 bytes-once x (b ∷ input) s y t z A B =
     let o = byte-once x b (A .first) (A .between) (B .first) (B .between) (A .does) (B .does) in
-    let p = bytes-once (A .between) input (A .others) y (B .others) z (A .goes-on) (subst (λ (w : Place). BytesFed w input (B .others) z) (sym (o .1)) (B .goes-on)) in
+    let p = bytes-once (A .between) input (A .others) y (B .others) z (A .goes-on) (subst (λ (w : Standing). BytesFed w input (B .others) z) (sym (o .1)) (B .goes-on)) in
     (A .both ∙ ap (λ (l : List ℕ). l ++ A .others) (o .0) ∙ ap (λ (l : List ℕ). B .first ++ l) (p .0) ∙ sym (B .both), p .1)
 
 put-same : (before s after : List ℕ) (at : ℕ) (t after′ : List ℕ) (at′ : ℕ) → s ≡ t → Put before 0 s after at → Put before 0 t after′ at′ → (after ≡ after′) × (at ≡ at′)
@@ -62,6 +62,6 @@ one-chunk x input before after after′ at at′ y z A B =
 
 pub one-end : One·end
 one-end x before after after′ at at′ ys zs A B =
-    let o = told-once (finishOf (x .pending)) (x .buffer) (x .words) (A .text) ys (B .text) zs (A .told) (B .told) in
+    let o = told-once (finishOf (x .unended)) (x .buffer) (x .words) (A .text) ys (B .text) zs (A .told) (B .told) in
     let p = put-same before (A .text) after at (B .text) after′ at′ (o .0) (A .puts) (B .puts) in
     (p .0, p .1, o .1)

@@ -194,7 +194,7 @@ module _ (s : Option (Table sheet)) (line : List ℕ) where
   from-1 (inl h) = from-large h
   from-1 (inr h) = from-before h
 
-  pub refusals : Refusals s line
+  refusals : Refusals s line
   unfolding answerTo
   refusals = record {
     refused-13 = (λ q. no-step (devicesOf s) line (to-13 (asked (parseLine (devicesOf s) line)) refl q), from-13);

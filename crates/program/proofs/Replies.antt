@@ -11,7 +11,7 @@ use lib.ListN.{length, getD, replicate, length-replicate}
 use Rattle.cells.proofs.Laws.{both-true}
 use Rattle.protocol.specs.declared.Refusal.{Refusal}
 use Rattle.protocol.specs.declared.Refusal.the-variants.{NoTable}
-use Rattle.protocol.specs.Machine.{Table, Step, step, run, fresh, refused}
+use Rattle.protocol.specs.Machine.{Table, Step, step, fresh, refused}
 use Rattle.protocol.specs.Machine as machine
 use Rattle.protocol.specs.Fits.{Sizes, Fits}
 use Rattle.sheet.specs.Sheet.{sheet, started}
@@ -19,6 +19,7 @@ use Rattle.sheet.specs.Answer.{meaning, written}
 use Rattle.sheet.specs.declared.Answer.{Answer}
 use Rattle.sheet.proofs.OneAnswer.{written-meaning}
 use Rattle.sheet.proofs.Theorem.{reached-fits}
+use Rattle.sheet.proofs.Runs.{run-append}
 use Rattle.words.specs.Layout.{DEVICES}
 use Rattle.table.specs.Table.{need, reading, IsTable}
 use Rattle.table.specs.Promise.{RefusedWith, Stepped}
@@ -69,7 +70,7 @@ module _ (s : Option (Table sheet)) (devices cells : ℕ) (xs : List ℕ) (a : A
         (B .1 .valid, B .1 .says, record { devices = devices; cells = cells; sizes = z; steps = []; is = refl }, omega (arith, B .1 .size)),
       )
 
-  pub start-is : (a ≡ written (startFrom s devices cells .answer)) × Holds (startFrom s devices cells .table) ys
+  start-is : (a ≡ written (startFrom s devices cells .answer)) × Holds (startFrom s devices cells .table) ys
   unfolding startFrom
   start-is = by (allowed devices cells) refl (small devices cells) refl
     where
@@ -79,17 +80,13 @@ module _ (s : Option (Table sheet)) (devices cells : ℕ) (xs : List ℕ) (a : A
       by false e u f = rw e (refusal-holds s xs a ys H _ (S .outside (λ z. false≢true (sym e ∙ of-sizes devices cells z))))
 
 -- a step of the machine
-run-snoc : (ss : List (Step sheet)) (m : Step sheet) (t : Table sheet) → run sheet (ss ++ (m ∷ [])) t ≡ step sheet m (run sheet ss t) .table
-run-snoc [] m t = refl
-run-snoc (s ∷ ss) m t = run-snoc ss m (step sheet s t .table)
-
 next-reached : (m : Step sheet) (t : Table sheet) → Reached t → Reached (step sheet m t .table)
 next-reached m t R = record {
   devices = R .devices;
   cells = R .cells;
   sizes = R .sizes;
   steps = R .steps ++ (m ∷ []);
-  is = ap (λ (u : Table sheet). step sheet m u .table) (R .is) ∙ sym (run-snoc (R .steps) m (fresh sheet (started (R .devices) (R .cells))));
+  is = ap (λ (u : Table sheet). step sheet m u .table) (R .is) ∙ sym (run-append (R .steps) (m ∷ []) (fresh sheet (started (R .devices) (R .cells))));
 }
 
 fits-reached : (t : Table sheet) → Reached t → Fits sheet t

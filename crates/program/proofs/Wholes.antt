@@ -1,5 +1,5 @@
 -- The whole of an input is answered as the machine answers its lines, however it arrives. Assumes nothing.
-use mathlib.Core.Path.{_≡_, refl, sym, ap, subst, _∙_}
+use mathlib.Core.Path.{_≡_, sym, ap, subst, _∙_}
 use mathlib.Core.List.{List, [], _∷_, _++_, append-assoc}
 use mathlib.Core.Option.{Option, none}
 use Prim.Native.Nat.{ℕ}
@@ -8,13 +8,13 @@ use borrow.Author.Tests.{ne-eqb}
 use lib.ListN.{length, take}
 use Rattle.protocol.specs.Machine.{Table}
 use Rattle.sheet.specs.Sheet.{sheet}
-use Rattle.lines.specs.Lines.{endedIn, pendingAfter, linesOf, lastLine}
-use Rattle.lines.specs.Held.{Held, LastIs, finishOf}
+use Rattle.lines.specs.Lines.{endedIn, unendedAfter, linesOf, lastLine}
+use Rattle.lines.specs.Held.{Held, nothing, LastIs, finishOf}
 use Rattle.lines.specs.declared.Fed.{Fed}
 use Rattle.lines.specs.declared.Fed.the-variants.{More, Line, Long}
 use Rattle.lines.proofs.Held.{held-none, last-is}
 use Rattle.answering.specs.Program.{answersTo, tableAfter, outputOf}
-use Rattle.stepping.specs.Bytes.{Place, place, nothing, Told, BytesFed, ChunksFed}
+use Rattle.stepping.specs.Bytes.{Standing, standing, Told, BytesFed, ChunksFed}
 use Rattle.program.specs.Claims.{Holds, Fed·as·the·machine, Answers·a·chunk, whole, Whole·program, However·it·arrives}
 use Rattle.program.proofs.Bytewise.{answers-append, Replied, replied-none, replied-line, replied-long, feeds-as-the-machine}
 
@@ -26,8 +26,8 @@ answers-a-chunk s q x input before after at y room h H C =
     record { answers = e ∙ F .text-is; behind = C .puts .kept; then-is = subst (λ (l : List ℕ). Fed·as·the·machine s q input l y) (sym e) F }
 
 -- chunk after chunk is byte after byte
-bytes-append : (x : Place) (a s : List ℕ) (y : Place) (b t : List ℕ) (z : Place) → BytesFed x a s y → BytesFed y b t z → BytesFed x (a ++ b) (s ++ t) z
-bytes-append x [] s y b t z (e, f) B = subst (λ (w : Place). BytesFed w b (s ++ t) z) f (subst (λ (l : List ℕ). BytesFed y b l z) (ap (λ (l : List ℕ). l ++ t) (sym e)) B)
+bytes-append : (x : Standing) (a s : List ℕ) (y : Standing) (b t : List ℕ) (z : Standing) → BytesFed x a s y → BytesFed y b t z → BytesFed x (a ++ b) (s ++ t) z
+bytes-append x [] s y b t z (e, f) B = subst (λ (w : Standing). BytesFed w b (s ++ t) z) f (subst (λ (l : List ℕ). BytesFed y b l z) (ap (λ (l : List ℕ). l ++ t) (sym e)) B)
 bytes-append x (c ∷ a) s y b t z A B = record {
   between = A .between;
   first = A .first;
@@ -37,12 +37,12 @@ bytes-append x (c ∷ a) s y b t z A B = record {
   both = ap (λ (l : List ℕ). l ++ t) (A .both) ∙ append-assoc (A .first) (A .others) t;
 }
 
-pub chunks-bytes : (x : Place) (chunks : List (List ℕ)) (text : List ℕ) (y : Place) → ChunksFed x chunks text y → BytesFed x (whole chunks) text y
+chunks-bytes : (x : Standing) (chunks : List (List ℕ)) (text : List ℕ) (y : Standing) → ChunksFed x chunks text y → BytesFed x (whole chunks) text y
 chunks-bytes x [] text y C = C
 chunks-bytes x (chunk ∷ chunks) text y C = subst (λ (l : List ℕ). BytesFed x (chunk ++ whole chunks) l y) (sym (C .both)) (bytes-append x chunk (C .first) (C .between) (whole chunks) (C .others) y (C .does) (chunks-bytes (C .between) chunks (C .others) y (C .goes-on)))
 
 -- the end of the input
-module _ (s : Option (Table sheet)) (q : List ℕ) (x : Place) (text ys : List ℕ) (h : Held q (x .buffer) (x .pending)) (H : Holds s (x .words)) where
+module _ (s : Option (Table sheet)) (q : List ℕ) (x : Standing) (text ys : List ℕ) (h : Held q (x .buffer) (x .unended)) (H : Holds s (x .words)) where
   one-line : (length q ≡ 0 → ⊥) → lastLine q ≡ q ∷ []
   one-line n = rw (ne-eqb (length q) 0 n)
 
@@ -51,18 +51,18 @@ module _ (s : Option (Table sheet)) (q : List ℕ) (x : Place) (text ys : List �
   replied-at (Line n) e T = subst (λ (l : List (List ℕ)). Replied s l text ys) (sym (one-line (λ z. omega (arith, e .0, e .1)))) (replied-line s (x .words) text ys H q n (x .buffer) (e .3) T)
   replied-at Long e T = subst (λ (l : List (List ℕ)). Replied s l text ys) (sym (one-line (λ z. omega arith))) (replied-long s (x .words) text ys H q (x .buffer) e T)
 
-  pub end-is : Told (finishOf (x .pending)) (x .buffer) (x .words) text ys → Replied s (lastLine q) text ys
-  end-is T = replied-at (finishOf (x .pending)) (last-is q (x .buffer) (x .pending) h) T
+  end-is : Told (finishOf (x .unended)) (x .buffer) (x .words) text ys → Replied s (lastLine q) text ys
+  end-is T = replied-at (finishOf (x .unended)) (last-is q (x .buffer) (x .unended) h) T
 
 pub whole-program : Whole·program
 unfolding outputOf linesOf
 whole-program buffer xs chunks text y last ys room long e C T =
     let input = whole chunks in
-    let F = feeds-as-the-machine none [] (place buffer nothing xs) input text y room (held-none buffer nothing refl refl) (e, long) (chunks-bytes (place buffer nothing xs) chunks text y C) in
-    let E = end-is (tableAfter none (endedIn [] input)) (pendingAfter [] input) y last ys (F .held) (F .holds) T in
+    let F = feeds-as-the-machine none [] (standing buffer nothing xs) input text y room (held-none buffer) (e, long) (chunks-bytes (standing buffer nothing xs) chunks text y C) in
+    let E = end-is (tableAfter none (endedIn [] input)) (unendedAfter [] input) y last ys (F .held) (F .holds) T in
     ap (λ (l : List ℕ). l ++ last) (F .text-is)
     ∙ ap (λ (l : List ℕ). answersTo none (endedIn [] input) ++ l) (E .text-is)
-    ∙ sym (answers-append none (endedIn [] input) (lastLine (pendingAfter [] input)))
+    ∙ sym (answers-append none (endedIn [] input) (lastLine (unendedAfter [] input)))
 
 pub however-it-arrives : However·it·arrives
 however-it-arrives buffer xs chunks chunks′ text text′ y y′ last last′ ys ys′ room long e w C T C′ T′ =

@@ -7,25 +7,22 @@ use Rattle.cells.specs.declared.Cell.{Cell}
 use Rattle.protocol.specs.declared.Refusal.the-variants.{Held}
 use Rattle.sheet.specs.declared.Answer.{Answer}
 use Rattle.text.specs.Field.{recordOf}
-use Rattle.text.specs.Text.{decimalText, signedText}
+use Rattle.text.specs.Text.{decimalText, ended, signedText}
 use Rattle.wording.specs.Names.{startText, updateText, readText, batchText, actText, addText}
 use Rattle.answers.specs.Answer.{answerLine}
 use Rattle.wording.specs.declared.names.Act.{Act}
 use Rattle.answering.specs.Program.{outputOf}
 
--- a record and the CR LF that ends it; a step that names a device alone
-abbrev line : List ℕ → List ℕ
-line l = l ++ (13 ∷ 10 ∷ [])
-
+-- a step that names a device alone
 abbrev of : Act → ℕ → List ℕ
-of act device = line (recordOf (actText act) (decimalText device ∷ []))
+of act device = ended (recordOf (actText act) (decimalText device ∷ []))
 
 abbrev read : ℕ → ℕ → List ℕ
-read device cell = line (recordOf readText (decimalText device ∷ decimalText cell ∷ []))
+read device cell = ended (recordOf readText (decimalText device ∷ decimalText cell ∷ []))
 
 -- `batch,1,0`
 abbrev batch : List ℕ
-batch = line (recordOf batchText (decimalText 1 ∷ decimalText 0 ∷ []))
+batch = ended (recordOf batchText (decimalText 1 ∷ decimalText 0 ∷ []))
 
 -- a row of the table: what stands in it, and the answer
 pub record Row : Type 0 where
@@ -39,8 +36,8 @@ _gives_ step answer = record { asks = step; answers = answer }
 -- `Held` is refusal 10
 abbrev pub caseS : List Row
 caseS =
-    line (recordOf startText (decimalText 2 ∷ decimalText 4 ∷ [])) gives Answer.Done
-    ∷ line (recordOf updateText (decimalText 0 ∷ decimalText 1 ∷ addText ∷ signedText (pos 1) ∷ [])) gives Answer.Done
+    ended (recordOf startText (decimalText 2 ∷ decimalText 4 ∷ [])) gives Answer.Done
+    ∷ ended (recordOf updateText (decimalText 0 ∷ decimalText 1 ∷ addText ∷ signedText (pos 1) ∷ [])) gives Answer.Done
     ∷ of Act.Push 0 gives Answer.Done
     ∷ of Act.Ask 0 gives Answer.Done
     ∷ of Act.Accept 0 gives Answer.Done

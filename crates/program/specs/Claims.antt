@@ -17,14 +17,14 @@ use Rattle.sheet.specs.Answer.{written}
 use Rattle.sheet.specs.declared.Answer.{Answer}
 use Rattle.words.specs.Layout.{DEVICES}
 use Rattle.table.specs.Table.{need, reading, ValidTable}
-use Rattle.lines.specs.Lines.{endedIn, pendingAfter}
-use Rattle.lines.specs.Held.{Held, finishOf}
+use Rattle.lines.specs.Lines.{endedIn, unendedAfter}
+use Rattle.lines.specs.Held.{Held, nothing, finishOf}
 use Rattle.steps.specs.Grammar.{LineOf}
 use Rattle.steps.specs.declared.parse.Step.{Step}
 use Rattle.table.specs.Asked.{machine·step}
 use Rattle.answering.specs.Program.{asked, devicesOf, answerTo, answersTo, tableAfter, outputOf}
 use Rattle.answering.specs.Answered.{Small, Answered}
-use Rattle.stepping.specs.Bytes.{Place, nothing, Told, BytesFed, ChunkFed, Finished, ChunksFed}
+use Rattle.stepping.specs.Bytes.{Standing, Told, BytesFed, ChunkFed, Finished, ChunksFed}
 
 -- The table is reached by steps from a start.
 pub record Reached (t : Table sheet) : Type 0 where
@@ -84,25 +84,25 @@ Answers·every·line = (s : Option (Table sheet)) (lines : List (List ℕ)) (xs 
     → (answers ≡ machineAnswers s lines) × Holds (tableAfter s lines) ys
 
 -- Bytes behind an unended line q: the lines that end in them are answered as the machine answers them, and the line that is left is held.
-pub record Fed·as·the·machine (s : Option (Table sheet)) (q input text : List ℕ) (y : Place) : Type 0 where
+pub record Fed·as·the·machine (s : Option (Table sheet)) (q input text : List ℕ) (y : Standing) : Type 0 where
   pub text-is : text ≡ answersTo s (endedIn q input)
   pub holds : Holds (tableAfter s (endedIn q input)) (y .words)
-  pub held : Held (pendingAfter q input) (y .buffer) (y .pending)
+  pub held : Held (unendedAfter q input) (y .buffer) (y .unended)
   pub room : 81 ≤ length (y .buffer)
 
 abbrev pub Feeds·as·the·machine : Type 0
-Feeds·as·the·machine = (s : Option (Table sheet)) (q : List ℕ) (x : Place) (input text : List ℕ) (y : Place)
-    → 81 ≤ length (x .buffer) → Held q (x .buffer) (x .pending) → Holds s (x .words) → BytesFed x input text y → Fed·as·the·machine s q input text y
+Feeds·as·the·machine = (s : Option (Table sheet)) (q : List ℕ) (x : Standing) (input text : List ℕ) (y : Standing)
+    → 81 ≤ length (x .buffer) → Held q (x .buffer) (x .unended) → Holds s (x .words) → BytesFed x input text y → Fed·as·the·machine s q input text y
 
 -- The output buffer after a chunk: the answers to exactly the lines that ended in it, in order, and behind them what stood there before.
-pub record Chunk·answered (s : Option (Table sheet)) (q input before after : List ℕ) (at : ℕ) (y : Place) : Type 0 where
+pub record Chunk·answered (s : Option (Table sheet)) (q input before after : List ℕ) (at : ℕ) (y : Standing) : Type 0 where
   pub answers : take at after ≡ answersTo s (endedIn q input)
   pub behind : drop at after ≡ drop at before
   pub then-is : Fed·as·the·machine s q input (take at after) y
 
 abbrev pub Answers·a·chunk : Type 0
-Answers·a·chunk = (s : Option (Table sheet)) (q : List ℕ) (x : Place) (input before after : List ℕ) (at : ℕ) (y : Place)
-    → 81 ≤ length (x .buffer) → Held q (x .buffer) (x .pending) → Holds s (x .words) → ChunkFed x input before after at y → Chunk·answered s q input before after at y
+Answers·a·chunk = (s : Option (Table sheet)) (q : List ℕ) (x : Standing) (input before after : List ℕ) (at : ℕ) (y : Standing)
+    → 81 ≤ length (x .buffer) → Held q (x .buffer) (x .unended) → Holds s (x .words) → ChunkFed x input before after at y → Chunk·answered s q input before after at y
 
 -- The chunks in which an input arrives, as one.
 abbrev pub whole : List (List ℕ) → List ℕ
@@ -111,21 +111,21 @@ whole (chunk ∷ chunks) = chunk ++ whole chunks
 
 -- The whole program, from words that no start has filled: what is written is the output of the whole input, however it arrived in chunks.
 abbrev pub Whole·program : Type 0
-Whole·program = (buffer xs : List ℕ) (chunks : List (List ℕ)) (text : List ℕ) (y : Place) (last ys : List ℕ)
+Whole·program = (buffer xs : List ℕ) (chunks : List (List ℕ)) (text : List ℕ) (y : Standing) (last ys : List ℕ)
     → 81 ≤ length buffer → need 3 ≤ length xs → getD xs DEVICES 0 ≡ 0
-    → ChunksFed (record { buffer = buffer; pending = nothing; words = xs }) chunks text y
-    → Told (finishOf (y .pending)) (y .buffer) (y .words) last ys
+    → ChunksFed (record { buffer = buffer; unended = nothing; words = xs }) chunks text y
+    → Told (finishOf (y .unended)) (y .buffer) (y .words) last ys
     → text ++ last ≡ outputOf (whole chunks)
 
 -- What is written does not depend on how the input arrives.
 abbrev pub However·it·arrives : Type 0
-However·it·arrives = (buffer xs : List ℕ) (chunks chunks′ : List (List ℕ)) (text text′ : List ℕ) (y y′ : Place) (last last′ ys ys′ : List ℕ)
+However·it·arrives = (buffer xs : List ℕ) (chunks chunks′ : List (List ℕ)) (text text′ : List ℕ) (y y′ : Standing) (last last′ ys ys′ : List ℕ)
     → 81 ≤ length buffer → need 3 ≤ length xs → getD xs DEVICES 0 ≡ 0
     → whole chunks ≡ whole chunks′
-    → ChunksFed (record { buffer = buffer; pending = nothing; words = xs }) chunks text y
-    → Told (finishOf (y .pending)) (y .buffer) (y .words) last ys
-    → ChunksFed (record { buffer = buffer; pending = nothing; words = xs }) chunks′ text′ y′
-    → Told (finishOf (y′ .pending)) (y′ .buffer) (y′ .words) last′ ys′
+    → ChunksFed (record { buffer = buffer; unended = nothing; words = xs }) chunks text y
+    → Told (finishOf (y .unended)) (y .buffer) (y .words) last ys
+    → ChunksFed (record { buffer = buffer; unended = nothing; words = xs }) chunks′ text′ y′
+    → Told (finishOf (y′ .unended)) (y′ .buffer) (y′ .words) last′ ys′
     → text ++ last ≡ text′ ++ last′
 
 -- No second outcome fits, whatever the words and buffers hold.
@@ -133,9 +133,9 @@ abbrev pub One·answer : Type 0
 One·answer = (line xs : List ℕ) (a b : Answer) (ys zs : List ℕ) → Answered line xs a ys → Answered line xs b zs → (a ≡ b) × (ys ≡ zs)
 
 abbrev pub One·chunk : Type 0
-One·chunk = (x : Place) (input before after after′ : List ℕ) (at at′ : ℕ) (y z : Place) → ChunkFed x input before after at y → ChunkFed x input before after′ at′ z
+One·chunk = (x : Standing) (input before after after′ : List ℕ) (at at′ : ℕ) (y z : Standing) → ChunkFed x input before after at y → ChunkFed x input before after′ at′ z
     → (after ≡ after′) × (at ≡ at′) × (y ≡ z)
 
 abbrev pub One·end : Type 0
-One·end = (x : Place) (before after after′ : List ℕ) (at at′ : ℕ) (ys zs : List ℕ) → Finished x before after at ys → Finished x before after′ at′ zs
+One·end = (x : Standing) (before after after′ : List ℕ) (at at′ : ℕ) (ys zs : List ℕ) → Finished x before after at ys → Finished x before after′ at′ zs
     → (after ≡ after′) × (at ≡ at′) × (ys ≡ zs)

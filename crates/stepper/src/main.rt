@@ -2,55 +2,56 @@
 use answering::line::WORDS;
 use libc::STDIN_FILENO;
 use libc::STDOUT_FILENO;
-use lines::Pending;
+use lines::Unended;
 use lines::none;
 use stepping::feed::ANSWERS;
+use stepping::feed::CHUNK;
 use stepping::feed::feed_chunk;
 use stepping::feed::finish_input;
 
 // Whether the input goes on, and what is held of the line that is not ended.
 struct Turn {
     more: bool,
-    pending: Pending,
+    unended: Unended,
 }
 
 // Reads once, and writes the answers out before the next read.
-fn read_some(t: &mut [u64], line: &mut [u8; 81], p: Pending) -> Turn {
-    let mut chunk = io::buffer();
+fn read_some(t: &mut [u64], line: &mut [u8; 81], p: Unended) -> Turn {
+    let mut chunk = [0u8; CHUNK];
     let got = libc::read(STDIN_FILENO, &mut chunk);
     if got <= 0 {
         return Turn {
             more: false,
-            pending: p,
+            unended: p,
         };
     }
     let n = io::count(got, &chunk);
     let mut out = [0u8; ANSWERS];
     let run = feed_chunk(t, line, p, &chunk[..n], &mut out);
     let at = run.at;
-    let pending = run.pending;
+    let unended = run.unended;
     let more = io::write_all(STDOUT_FILENO, &out[..at]);
-    Turn { more, pending }
+    Turn { more, unended }
 }
 
 // Reads to the end of the input. A proved loop has to end, so it counts its reads down, from a number that no run uses up.
-fn read_all(t: &mut [u64], line: &mut [u8; 81]) -> Pending {
+fn read_all(t: &mut [u64], line: &mut [u8; 81]) -> Unended {
     let p = none();
     let mut turn = Turn {
         more: true,
-        pending: p,
+        unended: p,
     };
     let mut turns = u64::MAX;
     while turns > 0 && turn.more {
-        let held = turn.pending;
+        let held = turn.unended;
         turn = read_some(t, line, held);
         turns -= 1;
     }
-    turn.pending
+    turn.unended
 }
 
 // The answer to a last line that no CR LF ended.
-fn answer_rest(t: &mut [u64], line: &[u8; 81], p: Pending) {
+fn answer_rest(t: &mut [u64], line: &[u8; 81], p: Unended) {
     let mut out = [0u8; ANSWERS];
     let at = finish_input(t, line, p, &mut out);
     io::write_all(STDOUT_FILENO, &out[..at]);

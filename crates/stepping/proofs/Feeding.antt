@@ -1,25 +1,23 @@
 -- The answers to bytes, one after the other, on any words and buffers. Assumes nothing.
 use mathlib.Core.Path.{_≡_, refl, sym, ap, subst, _∙_}
 use mathlib.Core.List.{List, [], _∷_, _++_, append-assoc, append-nil}
-use mathlib.Core.Logic.{_⊎_, ⊎-elim}
-use Prim.Native.Nat.{ℕ, _+_, _*_, _≤_, _<_, min}
+use Prim.Native.Nat.{ℕ, _+_, _*_, _≤_, _<_}
 use native.Mathlib.Omega.{arith}
 use native.Mathlib.Numerals.{add-one}
 use lib.ListN.{length, getD, take, length-take}
-use lib.Seq.{take-suc, take-all}
-use Rattle.words.proofs.Places.{lt-or-ge}
+use lib.Seq.{take-suc}
 use Rattle.protocol.specs.declared.Refusal.the-variants.{NoStep}
 use Rattle.sheet.specs.declared.Answer.{Answer}
 use Rattle.text.specs.Text.{Put}
 use Rattle.text.proofs.PutLaws.{put-none, put-then}
 use Rattle.lines.specs.Held.{fedOf, bufferAfter, finishOf}
-use Rattle.lines.specs.declared.Pending.{Pending}
+use Rattle.lines.specs.declared.Unended.{Unended}
 use Rattle.lines.specs.declared.Fed.{Fed}
 use Rattle.lines.specs.declared.Fed.the-variants.{More, Line, Long}
 use Rattle.lines.proofs.Held as held
 use Rattle.answers.specs.Answer.{PutUpTo, answerLine}
 use Rattle.answering.specs.Answered.{Answered}
-use Rattle.stepping.specs.Bytes.{Place, place, Told, Within, heldBy, ByteFed, PutTold, PutByte, BytesFed, ChunkFed, Finished}
+use Rattle.stepping.specs.Bytes.{Standing, standing, Told, Within, heldBy, ByteFed, PutTold, PutByte, BytesFed, ChunkFed, Finished}
 
 -- a line that is told has at most 80 bytes
 pub within-buffer : (fed : Fed) (buffer : List ℕ) → 80 ≤ length buffer → held.Within fed → Within fed buffer
@@ -32,7 +30,7 @@ within-line fed buffer n e w = subst (λ (f : Fed). Within f buffer) e w
 
 -- the three things that may be told
 module _ (fed : Fed) (buffer xs out : List ℕ) (at : ℕ) where
-  pub told-more : (p : Pending) → fed ≡ More p → PutTold fed buffer xs xs out at out at
+  pub told-more : (p : Unended) → fed ≡ More p → PutTold fed buffer xs xs out at out at
   told-more p e = record {
     text = [];
     told = subst (λ (f : Fed). Told f buffer xs [] xs) (sym e) (refl, refl);
@@ -54,30 +52,30 @@ module _ (fed : Fed) (buffer xs out : List ℕ) (at : ℕ) where
   }
 
 -- the end of the input
-pub told-end : (buffer : List ℕ) (p : Pending) (xs : List ℕ) (fed : Fed) (ys out after : List ℕ) (next : ℕ) → fed ≡ finishOf p → PutTold fed buffer xs ys out 0 after next → Finished (place buffer p xs) out after next ys
+pub told-end : (buffer : List ℕ) (p : Unended) (xs : List ℕ) (fed : Fed) (ys out after : List ℕ) (next : ℕ) → fed ≡ finishOf p → PutTold fed buffer xs ys out 0 after next → Finished (standing buffer p xs) out after next ys
 told-end buffer p xs fed ys out after next e T = record { text = T .text; told = subst (λ (f : Fed). Told f buffer xs (T .text) ys) e (T .told); puts = T .puts .puts }
 
 -- one byte: fed, told and held
-pub byte-put : (buffer : List ℕ) (p : Pending) (xs : List ℕ) (b : ℕ) (fed : Fed) (buffer′ : List ℕ) (p′ : Pending) (ys out : List ℕ) (at : ℕ) (after : List ℕ) (next : ℕ)
+pub byte-put : (buffer : List ℕ) (p : Unended) (xs : List ℕ) (b : ℕ) (fed : Fed) (buffer′ : List ℕ) (p′ : Unended) (ys out : List ℕ) (at : ℕ) (after : List ℕ) (next : ℕ)
     → fed ≡ fedOf p b → buffer′ ≡ bufferAfter buffer p b → p′ ≡ heldBy fed → PutTold fed buffer′ xs ys out at after next
-    → PutByte (place buffer p xs) b (place buffer′ p′ ys) out at after next
+    → PutByte (standing buffer p xs) b (standing buffer′ p′ ys) out at after next
 byte-put buffer p xs b fed buffer′ p′ ys out at after next e f h T = record {
   text = T .text;
   fed = record {
     told = subst (λ (g : Fed). Told g buffer′ xs (T .text) ys) e (T .told);
     buffer = f;
-    pending = h ∙ ap heldBy e;
+    unended = h ∙ ap heldBy e;
   };
   puts = T .puts;
 }
 
 -- one byte more
-pub bytes-snoc : (x : Place) (input s : List ℕ) (y : Place) (b : ℕ) (t : List ℕ) (z : Place) → BytesFed x input s y → ByteFed y b t z → BytesFed x (input ++ (b ∷ [])) (s ++ t) z
+bytes-snoc : (x : Standing) (input s : List ℕ) (y : Standing) (b : ℕ) (t : List ℕ) (z : Standing) → BytesFed x input s y → ByteFed y b t z → BytesFed x (input ++ (b ∷ [])) (s ++ t) z
 bytes-snoc x [] s y b t z (e, f) B = record {
   between = z;
   first = t;
   others = [];
-  does = subst (λ (w : Place). ByteFed w b t z) f B;
+  does = subst (λ (w : Standing). ByteFed w b t z) f B;
   goes-on = (refl, refl);
   both = ap (λ (l : List ℕ). l ++ t) e ∙ sym (append-nil t);
 }
@@ -91,16 +89,16 @@ bytes-snoc x (c ∷ input) s y b t z h B = record {
 }
 
 -- the first i bytes of a chunk
-pub record Sofar (x : Place) (input before : List ℕ) (i : ℕ) (after : List ℕ) (at : ℕ) (y : Place) : Type 0 where
+pub record Sofar (x : Standing) (input before : List ℕ) (i : ℕ) (after : List ℕ) (at : ℕ) (y : Standing) : Type 0 where
   pub text : List ℕ
   pub fed : BytesFed x (take i input) text y
   pub puts : PutUpTo (34 * i) before 0 text after at
 
-module _ (x : Place) (input before : List ℕ) where
+module _ (x : Standing) (input before : List ℕ) where
   pub sofar-none : Sofar x input before 0 before 0 x
   sofar-none = record { text = []; fed = (refl, refl); puts = record { puts = put-none before 0; within = omega arith } }
 
-  pub sofar-more : (i : ℕ) (mid : List ℕ) (m : ℕ) (y : Place) (after : List ℕ) (at : ℕ) (z : Place) → i < length input
+  pub sofar-more : (i : ℕ) (mid : List ℕ) (m : ℕ) (y : Standing) (after : List ℕ) (at : ℕ) (z : Standing) → i < length input
       → Sofar x input before i mid m y → PutByte y (getD input i 0) z mid m after at → Sofar x input before (i + 1) after at z
   sofar-more i mid m y after at z h S B = record {
     text = S .text ++ B .text;
@@ -112,19 +110,15 @@ module _ (x : Place) (input before : List ℕ) where
     };
   }
 
-  pub sofar-all : (i n : ℕ) (after : List ℕ) (at : ℕ) (y : Place) → take i input ≡ take n input → Sofar x input before i after at y → ChunkFed x (take n input) before after at y
+  pub sofar-all : (i n : ℕ) (after : List ℕ) (at : ℕ) (y : Standing) → take i input ≡ take n input → Sofar x input before i after at y → ChunkFed x (take n input) before after at y
   sofar-all i n after at y e S = record { text = S .text; fed = subst (λ (l : List ℕ). BytesFed x l (S .text) y) e (S .fed); puts = S .puts .puts }
-
--- as many bytes as are fed are those that are taken of the chunk
-pub fed-take : (i n : ℕ) (chunk : List ℕ) → i ≡ min n (length chunk) → take i chunk ≡ take n chunk
-fed-take i n chunk e = ⊎-elim (λ h. let g : i ≡ n = omega arith in ap (λ (k : ℕ). take k chunk) g) (λ h. take-all i chunk (omega arith) ∙ sym (take-all n chunk (omega arith))) (lt-or-ge n (length chunk))
 
 -- the text stands within the output buffer
 text-within : (before text after : List ℕ) (at : ℕ) → Put before 0 text after at → at ≤ length after
 text-within before text after at P = omega (arith, P .behind, ap length (P .holds), length-take at after)
 
-pub chunk-within : (x : Place) (input before after : List ℕ) (at : ℕ) (y : Place) → ChunkFed x input before after at y → at ≤ length after
+pub chunk-within : (x : Standing) (input before after : List ℕ) (at : ℕ) (y : Standing) → ChunkFed x input before after at y → at ≤ length after
 chunk-within x input before after at y C = text-within before (C .text) after at (C .puts)
 
-pub end-within : (x : Place) (before after : List ℕ) (at : ℕ) (ys : List ℕ) → Finished x before after at ys → at ≤ length after
+pub end-within : (x : Standing) (before after : List ℕ) (at : ℕ) (ys : List ℕ) → Finished x before after at ys → at ≤ length after
 end-within x before after at ys F = text-within before (F .text) after at (F .puts)

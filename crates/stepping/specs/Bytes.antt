@@ -1,4 +1,4 @@
--- What the step program promises of the bytes that it is fed, whatever its buffers hold. Assumes nothing.
+-- What the step program (document 01, "Step program") promises of the bytes that it is fed, whatever its buffers hold. Assumes nothing.
 use mathlib.Core.Path.{_≡_}
 use mathlib.Core.List.{List, [], _∷_, _++_}
 use Prim.Native.Nat.{ℕ, _≤_}
@@ -6,8 +6,8 @@ use lib.ListN.{length, take}
 use Rattle.protocol.specs.declared.Refusal.the-variants.{NoStep}
 use Rattle.sheet.specs.declared.Answer.{Answer}
 use Rattle.text.specs.Text.{Put}
-use Rattle.lines.specs.Held.{fedOf, bufferAfter, finishOf}
-use Rattle.lines.specs.declared.Pending.{Pending}
+use Rattle.lines.specs.Held.{nothing, fedOf, bufferAfter, finishOf}
+use Rattle.lines.specs.declared.Unended.{Unended}
 use Rattle.lines.specs.declared.Fed.{Fed}
 use Rattle.lines.specs.declared.Fed.the-variants.{More, Line, Long}
 use Rattle.answers.specs.Answer.{PutUpTo, answerLine}
@@ -18,14 +18,10 @@ abbrev pub CHUNK : ℕ
 CHUNK = 4096
 
 -- Where a run stands: the buffer with the line that is not ended yet, what is held of it, and the words of the table.
-pub record Place : Type 0 where
+pub record Standing : Type 0 where
   pub buffer : List ℕ
-  pub pending : Pending
+  pub unended : Unended
   pub words : List ℕ
-
--- no line is begun
-abbrev pub nothing : Pending
-nothing = record { len = 0; last = 0 }
 
 -- the answer to a line of at most 80 bytes, which stands in the buffer; "a longer line" is 13
 abbrev pub Told : Fed → (buffer xs text ys : List ℕ) → Type 0
@@ -40,20 +36,20 @@ Within (Line n) buffer = n ≤ length buffer
 Within Long buffer = Unit
 
 -- what is held after the byte
-abbrev pub heldBy : Fed → Pending
+abbrev pub heldBy : Fed → Unended
 heldBy (More p) = p
 heldBy (Line n) = nothing
 heldBy Long = nothing
 
--- The byte b: the text of the answer to the line that it ends, if it ends one, and the place after it.
-pub record ByteFed (x : Place) (b : ℕ) (text : List ℕ) (y : Place) : Type 0 where
-  pub told : Told (fedOf (x .pending) b) (y .buffer) (x .words) text (y .words)
-  pub buffer : y .buffer ≡ bufferAfter (x .buffer) (x .pending) b
-  pub pending : y .pending ≡ heldBy (fedOf (x .pending) b)
+-- The byte b: the text of the answer to the line that it ends, if it ends one, and where the run stands after it.
+pub record ByteFed (x : Standing) (b : ℕ) (text : List ℕ) (y : Standing) : Type 0 where
+  pub told : Told (fedOf (x .unended) b) (y .buffer) (x .words) text (y .words)
+  pub buffer : y .buffer ≡ bufferAfter (x .buffer) (x .unended) b
+  pub unended : y .unended ≡ heldBy (fedOf (x .unended) b)
 
 -- what stands where, by parts
-abbrev pub place : (buffer : List ℕ) → Pending → (words : List ℕ) → Place
-place buffer p words = record { buffer = buffer; pending = p; words = words }
+abbrev pub standing : (buffer : List ℕ) → Unended → (words : List ℕ) → Standing
+standing buffer p words = record { buffer = buffer; unended = p; words = words }
 
 -- The text of an answer, if there is one, is put at a place with room for 34 bytes.
 pub record PutTold (fed : Fed) (buffer xs ys before : List ℕ) (at : ℕ) (after : List ℕ) (next : ℕ) : Type 0 where
@@ -61,14 +57,14 @@ pub record PutTold (fed : Fed) (buffer xs ys before : List ℕ) (at : ℕ) (afte
   pub told : Told fed buffer xs text ys
   pub puts : PutUpTo 34 before at text after next
 
-pub record PutByte (x : Place) (b : ℕ) (y : Place) (before : List ℕ) (at : ℕ) (after : List ℕ) (next : ℕ) : Type 0 where
+pub record PutByte (x : Standing) (b : ℕ) (y : Standing) (before : List ℕ) (at : ℕ) (after : List ℕ) (next : ℕ) : Type 0 where
   pub text : List ℕ
   pub fed : ByteFed x b text y
   pub puts : PutUpTo 34 before at text after next
 
--- One thing is done and then another: the place between them, and the text of both.
-pub record Then (One : List ℕ → Place → Type 0) (Others : Place → List ℕ → Type 0) (text : List ℕ) : Type 0 where
-  pub between : Place
+-- One thing is done and then another: where the run stands between them, and the text of both.
+pub record Then (One : List ℕ → Standing → Type 0) (Others : Standing → List ℕ → Type 0) (text : List ℕ) : Type 0 where
+  pub between : Standing
   pub first : List ℕ
   pub others : List ℕ
   pub does : One first between
@@ -76,23 +72,23 @@ pub record Then (One : List ℕ → Place → Type 0) (Others : Place → List �
   pub both : text ≡ first ++ others
 
 -- Bytes, one after the other.
-abbrev pub BytesFed : Place → (input text : List ℕ) → Place → Type 0
+abbrev pub BytesFed : Standing → (input text : List ℕ) → Standing → Type 0
 BytesFed x [] text z = (text ≡ []) × (z ≡ x)
 BytesFed x (b ∷ input) text z = Then (ByteFed x b) (λ y others. BytesFed y input others z) text
 
 -- The text stands at the front of the output buffer, and what was behind it is kept.
-pub record ChunkFed (x : Place) (input before after : List ℕ) (at : ℕ) (y : Place) : Type 0 where
+pub record ChunkFed (x : Standing) (input before after : List ℕ) (at : ℕ) (y : Standing) : Type 0 where
   pub text : List ℕ
   pub fed : BytesFed x input text y
   pub puts : Put before 0 text after at
 
 -- The end of the input: what is left is a line where it has a byte.
-pub record Finished (x : Place) (before after : List ℕ) (at : ℕ) (ys : List ℕ) : Type 0 where
+pub record Finished (x : Standing) (before after : List ℕ) (at : ℕ) (ys : List ℕ) : Type 0 where
   pub text : List ℕ
-  pub told : Told (finishOf (x .pending)) (x .buffer) (x .words) text ys
+  pub told : Told (finishOf (x .unended)) (x .buffer) (x .words) text ys
   pub puts : Put before 0 text after at
 
 -- Chunks, one after the other.
-abbrev pub ChunksFed : Place → List (List ℕ) → (text : List ℕ) → Place → Type 0
+abbrev pub ChunksFed : Standing → List (List ℕ) → (text : List ℕ) → Standing → Type 0
 ChunksFed x [] text z = (text ≡ []) × (z ≡ x)
 ChunksFed x (chunk ∷ chunks) text z = Then (λ first y. BytesFed x chunk first y) (λ y others. ChunksFed y chunks others z) text

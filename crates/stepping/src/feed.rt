@@ -2,13 +2,14 @@
 ghost use mathlib.Core.Path.{_≡_};
 ghost use Prim.Native.Nat.{_+_, _≤_, min};
 ghost use lib.ListN.{length, take};
-ghost use Rattle.stepping.specs.Bytes.{CHUNK, place, heldBy, Within, PutTold, PutByte, ChunkFed, Finished};
+ghost use Rattle.stepping.specs.Bytes.{CHUNK, standing, heldBy, Within, PutTold, PutByte, ChunkFed, Finished};
 use answering::line::answer;
 use answers::answer::put_answer_line;
 use lines::Fed;
-use lines::Pending;
+use lines::Unended;
 use lines::feed;
 use lines::finish;
+use lines::none;
 use protocol::Refusal;
 use sheet::Answer;
 
@@ -19,18 +20,18 @@ pub const ANSWERS: usize = 34 * CHUNK;
 
 // What is held of the unended line, and how many bytes stand in the output buffer.
 pub struct Run {
-    pub pending: Pending,
+    pub unended: Unended,
     pub at: usize,
 }
 
 // What is held after a byte: nothing where it ended a line.
-fn held_by(fed: Fed) -> Pending
+fn held_by(fed: Fed) -> Unended
     ensures { λ r. ⌜ r ≡ heldBy fed ⌝ }
 {
     match fed {
         Fed::More(p) => p,
-        Fed::Line(_) => Pending { len: 0, last: 0 },
-        Fed::Long => Pending { len: 0, last: 0 },
+        Fed::Line(_) => none(),
+        Fed::Long => none(),
     }
 }
 
@@ -52,15 +53,15 @@ fn put_told(t: &mut [u64], line: &[u8], fed: Fed, out: &mut [u8], at: usize) -> 
 // One byte more.
 fn feed_byte(t: &mut [u64], line: &mut [u8], run: Run, b: u8, out: &mut [u8]) -> Run
     requires { ⌜ (81 ≤ length (now line)) × (run .at + 34 ≤ length (now out)) ⌝ }
-    ensures { λ r. ⌜ PutByte (place (now (line .entry)) (run .pending) (now (t .entry))) b (place (now (line .exit)) (r .pending) (now (t .exit))) (now (out .entry)) (run .at) (now (out .exit)) (r .at) ⌝ }
+    ensures { λ r. ⌜ PutByte (standing (now (line .entry)) (run .unended) (now (t .entry))) b (standing (now (line .exit)) (r .unended) (now (t .exit))) (now (out .entry)) (run .at) (now (out .exit)) (r .at) ⌝ }
 {
-    let pending = run.pending;
+    let unended = run.unended;
     let at = run.at;
-    let fed = feed(line, pending, b);
+    let fed = feed(line, unended, b);
     let next = put_told(t, line, fed, out, at);
     let held = held_by(fed);
     Run {
-        pending: held,
+        unended: held,
         at: next,
     }
 }
@@ -72,18 +73,18 @@ fn fed_of(n: usize) -> usize
     if CHUNK < n { CHUNK } else { n }
 }
 
-// Feeds a chunk, of which the line that is not ended yet stands in the line buffer. The answers stand at the front of the output buffer.
+// Feeds the first 4,096 bytes of a chunk. The line buffer holds the line that was not ended before it; the answers stand at the front of the output buffer.
 pub fn feed_chunk(
     t: &mut [u64],
     line: &mut [u8; 81],
-    p: Pending,
+    p: Unended,
     chunk: &[u8],
     out: &mut [u8; ANSWERS],
 ) -> Run
-    ensures { λ r. ⌜ ChunkFed (place (now (line .entry)) p (now (t .entry))) (take CHUNK (now (chunk .entry))) (now (out .entry)) (now (out .exit)) (r .at) (place (now (line .exit)) (r .pending) (now (t .exit))) ⌝ }
+    ensures { λ r. ⌜ ChunkFed (standing (now (line .entry)) p (now (t .entry))) (take CHUNK (now (chunk .entry))) (now (out .entry)) (now (out .exit)) (r .at) (standing (now (line .exit)) (r .unended) (now (t .exit))) ⌝ }
 {
     let n = fed_of(chunk.len());
-    let mut run = Run { pending: p, at: 0 };
+    let mut run = Run { unended: p, at: 0 };
     let mut i = 0;
     while i < n {
         run = feed_byte(t, line, run, chunk[i], out);
@@ -93,8 +94,8 @@ pub fn feed_chunk(
 }
 
 // The input has ended: the answer to a line that no CR LF ended, if there is one. Answers how many bytes stand in the output buffer.
-pub fn finish_input(t: &mut [u64], line: &[u8; 81], p: Pending, out: &mut [u8; ANSWERS]) -> usize
-    ensures { λ r. ⌜ Finished (place (now (line .entry)) p (now (t .entry))) (now (out .entry)) (now (out .exit)) r (now (t .exit)) ⌝ }
+pub fn finish_input(t: &mut [u64], line: &[u8; 81], p: Unended, out: &mut [u8; ANSWERS]) -> usize
+    ensures { λ r. ⌜ Finished (standing (now (line .entry)) p (now (t .entry))) (now (out .entry)) (now (out .exit)) r (now (t .exit)) ⌝ }
 {
     put_told(t, line, finish(p), out, 0)
 }

@@ -11,7 +11,8 @@ use lib.Dec.{eqb}
 use Rattle.text.specs.Field.{recordOf, commasOf, fieldOf}
 use Rattle.text.specs.Text.{decimalText}
 use Rattle.text.specs.declared.number.Whole.{Whole}
-use Rattle.text.proofs.Fields.{NoCommas, decimal-no-comma, record-commas, record-first, record-field}
+use Rattle.text.proofs.Fields.{NoCommas, record-commas, record-first, record-field}
+use Rattle.text.proofs.Without.{decimal-without}
 use Rattle.cells.specs.declared.Update.{Update}
 use Rattle.wording.specs.Values.{numberAt, updateAt}
 use Rattle.wording.specs.Names.{kindOf}
@@ -44,7 +45,7 @@ module _ (d : ℕ) (k : Kind) (fs : List (List ℕ)) (q : NoCommas fs) (l : List
 -- the steps of two numbers
 module _ (d a b : ℕ) (l : List ℕ) (h : length l ≤ 80) where
   two : NoCommas (decimalText a ∷ decimalText b ∷ [])
-  two = (decimal-no-comma a, (decimal-no-comma b, tt))
+  two = (decimal-without 44 (omega arith) a, (decimal-without 44 (omega arith) b, tt))
 
   pair-at : (k : Kind) → l ≡ recordOf (nameOf k) (decimalText a ∷ decimalText b ∷ []) → a ≤ largest → b ≤ largest → pairOf l ≡ MaybePair.Is a b
   pair-at k e x y = pair-is l a b (record {
@@ -66,7 +67,7 @@ module _ (d a b : ℕ) (l : List ℕ) (h : length l ≤ 80) where
   update-complete u i =
       let fields = i .0 in
       let fs = decimalText a ∷ decimalText b ∷ fields in
-      let q : NoCommas fs = (decimal-no-comma a, (decimal-no-comma b, update-plain u fields (i .1))) in
+      let q : NoCommas fs = (decimal-without 44 (omega arith) a, (decimal-without 44 (omega arith) b, update-plain u fields (i .1))) in
       let f = field-is d Kind.Update fs q l (i .4) in
       let p : pairOf l ≡ MaybePair.Is a b = pair-is l a b (record { first = f 0 (omega arith); second = f 1 (omega arith); small = (i .2, i .3) }) in
       let r : updateAt (length fs) l ≡ MaybeUpdate.Is u = update-is l (length fs) u fields (i .1) (λ k g. f (suc (suc k)) (omega arith)) refl in
@@ -77,7 +78,7 @@ device-complete : (d : ℕ) (act : Act) (v : ℕ) (l : List ℕ) → length l �
 unfolding stepOf deviceStep
 device-complete d act v l h i =
     let fs = decimalText v ∷ [] in
-    let q : NoCommas fs = (decimal-no-comma v, tt) in
+    let q : NoCommas fs = (decimal-without 44 (omega arith) v, tt) in
     line-is d (Kind.Device act) fs q l (i .1) h ∙ rw (number-is 1 l (field-is d (Kind.Device act) fs q l (i .1) 0 (omega arith)) (i .0))
 
 crash-complete : (d : ℕ) (l : List ℕ) → length l ≤ 80 → LineIs d Step.Crash l → parseLine d l ≡ Step.Crash
@@ -100,7 +101,7 @@ module _ (d : ℕ) (c : Counts) (fields : List (List ℕ)) (i : CountsAre d c fi
 
   counts-plain : NoCommas fields
   counts-plain =
-      subst NoCommas (sym (i .text)) (no-commas-take (c .number) texts (decimal-no-comma (c .first), (decimal-no-comma (c .second), (decimal-no-comma (c .third), tt))))
+      subst NoCommas (sym (i .text)) (no-commas-take (c .number) texts (decimal-without 44 (omega arith) (c .first), (decimal-without 44 (omega arith) (c .second), (decimal-without 44 (omega arith) (c .third), tt))))
 
   counts-length : length fields ≡ c .number
   counts-length = ap length (i .text) ∙ length-take-le (c .number) texts (i .fits .1)
@@ -130,7 +131,7 @@ cut-complete d c j l h i =
     let fields = i .0 in
     let last = decimalText j ∷ [] in
     let n = counts-length d c fields (i .1) in
-    let q = no-commas-append fields last (counts-plain d c fields (i .1)) (decimal-no-comma j, tt) in
+    let q = no-commas-append fields last (counts-plain d c fields (i .1)) (decimal-without 44 (omega arith) j, tt) in
     let m : length (fields ++ last) ≡ suc (c .number) = omega (arith, length-append fields last, n) in
     let f = field-is d Kind.Cut (fields ++ last) q l (i .3) in
     let r = counts-at d c fields (i .1) l (λ k g. f k (omega (arith, m)) ∙ List·getD-append fields last [] k (omega (arith, n))) in

@@ -1,34 +1,28 @@
 -- How many counts may stand, and the counts of a line, both ways. Assumes nothing.
-use Prim.Native.Nat.{ℕ, zero, suc, _≤_, _<_}
+use Prim.Native.Nat.{ℕ, _≤_, _<_}
 use mathlib.Core.Path.{_≡_, refl, ap, sym, subst}
 use mathlib.Core.List.{List}
-use mathlib.Core.Bool.{Bool, true, false, cond}
+use mathlib.Core.Bool.{Bool, true, false, false≢true, cond}
 use native.Mathlib.Omega.{arith}
 use borrow.Author.Tests.{eq-eqb, ne-eqb, eqb-true, eqb-false, le-ltb, ltb-true, ltb-false}
 use lib.Dec.{eqb, ltb}
 use Rattle.text.specs.Field.{fieldOf}
 use Rattle.text.specs.Text.{decimalText}
 use Rattle.text.specs.declared.number.Whole.{Whole}
+use Rattle.text.proofs.DecimalTrip.{not-zero}
 use Rattle.wording.specs.Values.{numberAt}
 use Rattle.steps.specs.Parse.{countAt, countsOf, countsFit}
-use Rattle.steps.specs.Grammar.{largest, Fits}
+use Rattle.steps.specs.Grammar.{largest, CountsFit}
 use Rattle.steps.specs.declared.parse.Counts.{Counts}
 use Rattle.steps.specs.declared.parse.MaybeCounts.{MaybeCounts}
-use Rattle.steps.proofs.Cases.{whole-of}
+use Rattle.text.proofs.Cases.{whole-of}
 use Rattle.steps.proofs.Numbers.{number-sound, number-is}
 
 -- the test of the number of counts
-pub fit-read : (d n : ℕ) → countsFit d n ≡ true → Fits d n
+pub fit-read : (d n : ℕ) → countsFit d n ≡ true → CountsFit d n
 unfolding countsFit
 fit-read d n = by (eqb n 0) refl (ltb 3 n) refl (eqb d 0) refl
   where
-    never : {A : Type 0} → false ≡ true → A
-    never e = let z : _≡_ {A = ℕ} 0 1 = cc in absurd (omega arith)
-
-    some : (n : ℕ) → (n ≡ 0 → ⊥) → 1 ≤ n
-    some zero k = absurd (k refl)
-    some (suc n) k = omega arith
-
     by :
         (r : Bool)
         → eqb n 0 ≡ r
@@ -37,13 +31,13 @@ fit-read d n = by (eqb n 0) refl (ltb 3 n) refl (eqb d 0) refl
         → (t : Bool)
         → eqb d 0 ≡ t
         → cond r false (cond s false (cond t true (eqb n d))) ≡ true
-        → Fits d n
-    by true p s q t u e = never e
-    by false p true q t u e = never e
-    by false p false q true u e = (some n (eqb-false n 0 p), ltb-false 3 n q, λ k. absurd (k (eqb-true d 0 u)))
-    by false p false q false u e = (some n (eqb-false n 0 p), ltb-false 3 n q, λ k. eqb-true n d e)
+        → CountsFit d n
+    by true p s q t u e = absurd (false≢true e)
+    by false p true q t u e = absurd (false≢true e)
+    by false p false q true u e = (not-zero n (eqb-false n 0 p), ltb-false 3 n q, λ k. absurd (k (eqb-true d 0 u)))
+    by false p false q false u e = (not-zero n (eqb-false n 0 p), ltb-false 3 n q, λ k. eqb-true n d e)
 
-pub fit-is : (d n : ℕ) → Fits d n → countsFit d n ≡ true
+pub fit-is : (d n : ℕ) → CountsFit d n → countsFit d n ≡ true
 unfolding countsFit
 fit-is d n f = rw (ne-eqb n 0 (λ e. omega (arith, f .0)), le-ltb 3 n (f .1)) (by (eqb d 0) refl)
   where
@@ -57,7 +51,7 @@ pub record CountIs (n k v : ℕ) (l : List ℕ) : Type 0 where
   pub unused : n < k → v ≡ 0
   pub field : k ≤ n → fieldOf k l ≡ decimalText v
 
-pub count-sound : (n k : ℕ) (l : List ℕ) (v : ℕ) → countAt n k l ≡ Whole.Is v → CountIs n k v l
+count-sound : (n k : ℕ) (l : List ℕ) (v : ℕ) → countAt n k l ≡ Whole.Is v → CountIs n k v l
 unfolding countAt
 count-sound n k l v = by (ltb n k) refl
   where

@@ -12,7 +12,7 @@ use Rattle.wording.specs.Values.{numberAt}
 use Rattle.steps.specs.Parse.{pairOf}
 use Rattle.steps.specs.Grammar.{largest}
 use Rattle.steps.specs.declared.parse.MaybePair.{MaybePair}
-use Rattle.steps.proofs.Cases.{whole-of}
+use Rattle.text.proofs.Cases.{whole-of}
 
 pub number-sound : (k : ℕ) (l : List ℕ) (v : ℕ) → numberAt k l ≡ Whole.Is v → (fieldOf k l ≡ decimalText v) × (v ≤ largest)
 unfolding numberAt

@@ -16,12 +16,13 @@ use Rattle.wording.specs.Names.{startText, updateText, readText, batchText, cut
 use Rattle.wording.specs.Values.{numberAt, updateAt}
 use Rattle.wording.specs.Names.{kindOf}
 use Rattle.steps.specs.Parse.{onPair, countsOf, countsFit, pairOf, startStep, readStep, updateStep, actOn, deviceStep, batchStep, cutStep, stepOf, parseLine}
-use Rattle.steps.specs.Grammar.{largest, Fits, CountsAre, DeviceLine, LineIs, LineOf}
+use Rattle.steps.specs.Grammar.{largest, CountsFit, CountsAre, DeviceLine, LineIs, LineOf}
 use Rattle.wording.specs.declared.names.Act.{Act}
 use Rattle.wording.specs.declared.names.Kind.{Kind}
 use Rattle.steps.specs.declared.parse.Counts.{Counts}
 use Rattle.steps.specs.declared.parse.Step.{Step}
-use Rattle.steps.proofs.Cases.{cond-of, whole-of, pair-of, update-of, counts-of}
+use Rattle.text.proofs.Cases.{cond-of, whole-of}
+use Rattle.steps.proofs.Cases.{pair-of, update-of, counts-of}
 use Rattle.steps.proofs.Words.{KindIs, kind-sound}
 use Rattle.steps.proofs.Numbers.{number-sound, pair-sound}
 use Rattle.steps.proofs.Counts.{fit-read, CountIs, CountsRead, counts-sound}
@@ -109,11 +110,11 @@ module _ (d : ℕ) (l : List ℕ) where
       cons (x .field (omega arith)) (cons (y .field (omega arith)) (cons (z .field (omega arith)) refl))
   counts-text (suc (suc (suc (suc n)))) a b c g h x y z = absurd (omega arith)
 
-  counts-are : (n : ℕ) (c : Counts) → Fits d n → CountsRead n l c → CountsAre d c (fieldsFrom 1 n l)
+  counts-are : (n : ℕ) (c : Counts) → CountsFit d n → CountsRead n l c → CountsAre d c (fieldsFrom 1 n l)
   counts-are n c f r =
       let e : c .number ≡ n = r .number in
       record {
-        fits = subst (Fits d) (sym e) f;
+        fits = subst (CountsFit d) (sym e) f;
         small = (r .first .small, r .second .small, r .third .small);
         unused = ((λ h. r .second .unused (omega arith)), (λ h. r .third .unused (omega arith)));
         text = counts-text n (c .first) (c .second) (c .third) (f .0) (f .1) (r .first) (r .second) (r .third)

@@ -19,7 +19,7 @@ use Rattle.steps.specs.declared.parse.Step.{Step}
 abbrev pub largest : ℕ
 largest = 9223372036854775807
 
--- "Updates: `blank`, `count,n`, `measure,` 16 hex digits, `add,n`." A measured number has the text of each of its patterns; a NaN has many.
+-- "Updates: `blank`, `count,n`, `measure,` 16 hex digits, `add,n`." A float has the text of each of its patterns; only a NaN has more than one.
 abbrev pub UpdateIs : Update → List (List ℕ) → Type 0
 UpdateIs (Update.Set Cell.Blank) fields = fields ≡ blankText ∷ []
 UpdateIs (Update.Set (Cell.Count n)) fields = SFits w64 n × (fields ≡ countText ∷ signedText n ∷ [])
@@ -28,12 +28,12 @@ UpdateIs (Update.Set (Cell.Measure x)) fields =
 UpdateIs (Update.Add n) fields = SFits w64 n × (fields ≡ addText ∷ signedText n ∷ [])
 
 -- "One count per device (before a start, 1 to 3)": `devices` is 0 before a start, and never above 3 in this program.
-abbrev pub Fits : ℕ → ℕ → Type 0
-Fits devices n = (1 ≤ n) × (n ≤ 3) × ((devices ≡ 0 → ⊥) → n ≡ devices)
+abbrev pub CountsFit : ℕ → ℕ → Type 0
+CountsFit devices n = (1 ≤ n) × (n ≤ 3) × ((devices ≡ 0 → ⊥) → n ≡ devices)
 
 -- "`batch` and `cut` carry one count per device": the counts' fields. A count that is not there is 0.
 pub record CountsAre (devices : ℕ) (c : Counts) (fields : List (List ℕ)) : Type 0 where
-  pub fits : Fits devices (c .number)
+  pub fits : CountsFit devices (c .number)
   pub small : (c .first ≤ largest) × (c .second ≤ largest) × (c .third ≤ largest)
   pub unused : (c .number < 2 → c .second ≡ 0) × (c .number < 3 → c .third ≡ 0)
   pub text : fields ≡ take (c .number) (decimalText (c .first) ∷ decimalText (c .second) ∷ decimalText (c .third) ∷ [])

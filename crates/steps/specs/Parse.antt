@@ -1,4 +1,4 @@
--- How a line is read as a step; `proofs/Exactly.antt` ties it to `Grammar.antt`. Assumes nothing.
+-- How a line is read as a step (document 01, "Step program"); `proofs/Exactly.antt` ties it to `Grammar.antt`. Assumes nothing.
 use Prim.Native.Nat.{ℕ, _-_}
 use mathlib.Core.List.{List}
 use mathlib.Core.Bool.{Bool, true, false, cond}

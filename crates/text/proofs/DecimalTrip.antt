@@ -89,9 +89,9 @@ zero-leads b x l k z =
     let t : leadingZero (b ∷ x ∷ l) ≡ true = rw (lt-ltb 1 (suc (suc (length l))) (omega arith), k) in
     let q : _≡_ {A = ℕ} 0 1 = cc in omega arith
 
-some : (n : ℕ) → (n ≡ 0 → ⊥) → 1 ≤ n
-some zero k = absurd (k refl)
-some (suc n) k = omega arith
+pub not-zero : (n : ℕ) → (n ≡ 0 → ⊥) → 1 ≤ n
+not-zero zero k = absurd (k refl)
+not-zero (suc n) k = omega arith
 
 first-sound :
     (most b : ℕ) (l : List ℕ) (v : ℕ)
@@ -106,7 +106,7 @@ first-sound most b l v z e =
     by : (l : List ℕ) → leadingZero (b ∷ l) ≡ false → (u : ℕ) → NextRead 10 most 0 b u → digitsFrom 10 most u l ≡ Is v → (b ∷ l ≡ decimalText v) × (v ≤ most)
     by [] z u r q = let s : u ≡ v = is-is q in (sym (ap decimalText (sym s) ∙ text-first most 0 b u r refl), omega (arith, r .fits))
     by (x ∷ l) z u r q =
-        let g : 1 ≤ u = some u (λ k. zero-leads b x l (omega (arith, byte-is most 0 b u r)) z) in
+        let g : 1 ≤ u = not-zero u (λ k. zero-leads b x l (omega (arith, byte-is most 0 b u r)) z) in
         let i = digits-sound most u (x ∷ l) v g (r .fits) q in
         (sym (i .0 ∙ ap (λ (t : List ℕ). t ++ (x ∷ l)) (text-first most 0 b u r refl)), i .1)
 

@@ -49,7 +49,7 @@ module _ (b : ℕ) where
   digit-high h = simp (le-leb 48 b (omega arith), lt-leb b 57 (omega arith), le-leb 65 b (omega arith), lt-leb b 70)
 
 -- a digit's byte is read as the digit, and no other byte is
-pub byte-digit : (d : ℕ) → d < 16 → digitOf (digitByte d) ≡ Is d
+byte-digit : (d : ℕ) → d < 16 → digitOf (digitByte d) ≡ Is d
 byte-digit d g = by (ltb d 10) refl
   where
     by : (t : Bool) → ltb d 10 ≡ t → digitOf (digitByte d) ≡ Is d
@@ -62,7 +62,7 @@ byte-digit d g = by (ltb d 10) refl
         let l : 10 ≤ d = ltb-false d 10 q in
         sym (digit-letter (digitByte d) (omega arith) (omega arith) (omega arith))
 
-pub digit-byte-is : (b d : ℕ) → digitOf b ≡ Is d → (d < 16) × (digitByte d ≡ b)
+digit-byte-is : (b d : ℕ) → digitOf b ≡ Is d → (d < 16) × (digitByte d ≡ b)
 digit-byte-is b d e = first (leb 48 b) refl
   where
     letter : 65 ≤ b → (t : Bool) → leb b 70 ≡ t → (d < 16) × (digitByte d ≡ b)
@@ -101,7 +101,7 @@ module _ (base most number d : ℕ) where
   unfolding withDigit
   with-is h o = simp (lt-ltb d base, le-leb (number * base + d) most)
 
-  pub with-read : (v : ℕ) → withDigit base most number d ≡ Is v → (d < base) × (v ≡ number * base + d) × (v ≤ most)
+  with-read : (v : ℕ) → withDigit base most number d ≡ Is v → (d < base) × (v ≡ number * base + d) × (v ≤ most)
   with-read v e = by (ltb d base) refl (leb (number * base + d) most) refl
     where
       by : (s : Bool) → ltb d base ≡ s → (t : Bool) → leb (number * base + d) most ≡ t → (d < base) × (v ≡ number * base + d) × (v ≤ most)

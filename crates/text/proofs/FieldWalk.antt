@@ -31,11 +31,11 @@ module _ (f : List ℕ) (i : ℕ) (h : i < length f) where
   after-miss zero z e = absurd (z refl)
   after-miss (suc k) z e = rw (add-one, drop-cons f i 0, ne-eqb (getD f i 0) 44 e)
 
-  pub up-hit : getD f i 0 ≡ 44 → upToComma (drop i f) ≡ []
+  up-hit : getD f i 0 ≡ 44 → upToComma (drop i f) ≡ []
   unfolding upToComma
   up-hit e = rw (drop-cons f i 0, e)
 
-  pub up-miss : (getD f i 0 ≡ 44 → ⊥) → upToComma (drop i f) ≡ getD f i 0 ∷ upToComma (drop (i + 1) f)
+  up-miss : (getD f i 0 ≡ 44 → ⊥) → upToComma (drop i f) ≡ getD f i 0 ∷ upToComma (drop (i + 1) f)
   unfolding upToComma
   up-miss e = rw (add-one, drop-cons f i 0, ne-eqb (getD f i 0) 44 e)
 
@@ -47,12 +47,12 @@ pub after-none : (l : List ℕ) → afterCommas 0 l ≡ l
 unfolding afterCommas
 after-none l = refl
 
-pub after-end : (k : ℕ) → afterCommas k [] ≡ []
+after-end : (k : ℕ) → afterCommas k [] ≡ []
 unfolding afterCommas
 after-end zero = refl
 after-end (suc k) = refl
 
-pub up-end : upToComma [] ≡ []
+up-end : upToComma [] ≡ []
 unfolding upToComma
 up-end = refl
 
@@ -95,11 +95,11 @@ module _ (a b : List ℕ) (i : ℕ) where
   unfolding sameAs
   same-short h g = rw (drop-cons a i 0, drop-of-length-le b g)
 
-  pub same-both : length a ≤ i → length b ≤ i → sameAs (drop i a) (drop i b) ≡ true
+  same-both : length a ≤ i → length b ≤ i → sameAs (drop i a) (drop i b) ≡ true
   unfolding sameAs
   same-both h g = rw (drop-of-length-le a h, drop-of-length-le b g)
 
-  pub same-long : length a ≤ i → i < length b → sameAs (drop i a) (drop i b) ≡ false
+  same-long : length a ≤ i → i < length b → sameAs (drop i a) (drop i b) ≡ false
   unfolding sameAs
   same-long h g = rw (drop-of-length-le a h, drop-cons b i 0)
 

@@ -1,73 +1,60 @@
 -- The fields of a record that is put together from texts without commas, and a record put together from its fields. Assumes nothing.
-use Prim.Native.Nat.{_<_, ℕ, zero, suc, _+_, _/_, _%_}
-use mathlib.Core.Path.{_≡_, refl, ap, sym, subst, _∙_}
+use Prim.Native.Nat.{_<_, ℕ, zero, suc}
+use mathlib.Core.Path.{_≡_, refl, ap, sym, _∙_}
 use mathlib.Core.List.{List, [], _∷_, _++_}
 use mathlib.Core.Bool.{Bool, true, false, cond}
 use lib.ListN.{length, getD}
 use native.Mathlib.Omega.{arith}
-use borrow.Author.Tests.{ne-eqb, eqb-true, eqb-false}
-use lib.Dec.{T, eqb}
+use borrow.Author.Tests.{ne-eqb, eqb-true}
+use lib.Dec.{eqb}
 use Rattle.text.specs.Field.{recordOf, commasOf, afterCommas, upToComma, fieldOf, sameAs}
-use Rattle.text.specs.Text.{decimalText}
+use Rattle.text.specs.Text.{Without}
+use Rattle.text.proofs.Cases.{cond-of}
 use Rattle.text.proofs.FieldWalk.{after-none}
-use Rattle.text.proofs.DecimalText.{by-digits, decimal-small, decimal-more}
-
-abbrev pub NoComma : List ℕ → Type 0
-NoComma [] = Unit
-NoComma (b ∷ l) = (b ≡ 44 → ⊥) × NoComma l
-
-pub no-comma-append : (a b : List ℕ) → NoComma a → NoComma b → NoComma (a ++ b)
-no-comma-append [] b p q = q
-no-comma-append (x ∷ a) b p q = (p .0, no-comma-append a b (p .1) q)
-
-pub decimal-no-comma : (n : ℕ) → NoComma (decimalText n)
-decimal-no-comma = by-digits (λ (n : ℕ). NoComma (decimalText n))
-    (λ n h. subst NoComma (sym (decimal-small n h)) ((λ e. omega arith), tt))
-    (λ n h ih. subst NoComma (sym (decimal-more n h)) (no-comma-append (decimalText (n / 10)) ((48 + n % 10) ∷ []) ih ((λ e. omega arith), tt)))
 
 -- put together, then taken apart
-pub up-plain : (f : List ℕ) → NoComma f → upToComma f ≡ f
+up-plain : (f : List ℕ) → Without 44 f → upToComma f ≡ f
 unfolding upToComma
 up-plain [] p = refl
 up-plain (b ∷ f) p = rw (ne-eqb b 44 (p .0)) (ap (λ (t : List ℕ). b ∷ t) (up-plain f (p .1)))
 
-pub up-cut : (f r : List ℕ) → NoComma f → upToComma (f ++ 44 ∷ r) ≡ f
+up-cut : (f r : List ℕ) → Without 44 f → upToComma (f ++ 44 ∷ r) ≡ f
 unfolding upToComma
 up-cut [] r p = refl
 up-cut (b ∷ f) r p = rw (ne-eqb b 44 (p .0)) (ap (λ (t : List ℕ). b ∷ t) (up-cut f r (p .1)))
 
-pub after-cut : (k : ℕ) (f r : List ℕ) → NoComma f → afterCommas (suc k) (f ++ 44 ∷ r) ≡ afterCommas k r
+after-cut : (k : ℕ) (f r : List ℕ) → Without 44 f → afterCommas (suc k) (f ++ 44 ∷ r) ≡ afterCommas k r
 unfolding afterCommas
 after-cut k [] r p = refl
 after-cut k (b ∷ f) r p = rw (ne-eqb b 44 (p .0)) (after-cut k f r (p .1))
 
-pub commas-plain : (f : List ℕ) → NoComma f → commasOf f ≡ 0
+commas-plain : (f : List ℕ) → Without 44 f → commasOf f ≡ 0
 unfolding commasOf
 commas-plain [] p = refl
 commas-plain (b ∷ f) p = rw (ne-eqb b 44 (p .0)) (commas-plain f (p .1))
 
-pub commas-cut : (f r : List ℕ) → NoComma f → commasOf (f ++ 44 ∷ r) ≡ suc (commasOf r)
+commas-cut : (f r : List ℕ) → Without 44 f → commasOf (f ++ 44 ∷ r) ≡ suc (commasOf r)
 unfolding commasOf
 commas-cut [] r p = refl
 commas-cut (b ∷ f) r p = rw (ne-eqb b 44 (p .0)) (commas-cut f r (p .1))
 
-pub field-only : (f : List ℕ) → NoComma f → fieldOf 0 f ≡ f
+field-only : (f : List ℕ) → Without 44 f → fieldOf 0 f ≡ f
 unfolding fieldOf
 field-only f p = ap upToComma (after-none f) ∙ up-plain f p
 
-pub field-first : (f r : List ℕ) → NoComma f → fieldOf 0 (f ++ 44 ∷ r) ≡ f
+field-first : (f r : List ℕ) → Without 44 f → fieldOf 0 (f ++ 44 ∷ r) ≡ f
 unfolding fieldOf
 field-first f r p = ap upToComma (after-none (f ++ 44 ∷ r)) ∙ up-cut f r p
 
-pub field-next : (k : ℕ) (f r : List ℕ) → NoComma f → fieldOf (suc k) (f ++ 44 ∷ r) ≡ fieldOf k r
+field-next : (k : ℕ) (f r : List ℕ) → Without 44 f → fieldOf (suc k) (f ++ 44 ∷ r) ≡ fieldOf k r
 unfolding fieldOf
 field-next k f r p = ap upToComma (after-cut k f r p)
 
 -- taken apart, then put together: behind the first comma stands restOf
-pub restOf : List ℕ → List ℕ
+restOf : List ℕ → List ℕ
 restOf l = afterCommas 1 l
 
-pub all-first : (l : List ℕ) → commasOf l ≡ 0 → l ≡ fieldOf 0 l
+all-first : (l : List ℕ) → commasOf l ≡ 0 → l ≡ fieldOf 0 l
 unfolding fieldOf commasOf upToComma afterCommas
 all-first [] e = refl
 all-first (b ∷ l) e = by (eqb b 44) refl (all-first l)
@@ -78,7 +65,7 @@ all-first (b ∷ l) e = by (eqb b 44) refl (all-first l)
         let z : commasOf l ≡ 0 = sym (rw q) ∙ e in
         rw q (ap (λ (t : List ℕ). b ∷ t) (ih z))
 
-pub cut-first : (l : List ℕ) (n : ℕ) → commasOf l ≡ suc n → (l ≡ fieldOf 0 l ++ 44 ∷ restOf l) × (commasOf (restOf l) ≡ n)
+cut-first : (l : List ℕ) (n : ℕ) → commasOf l ≡ suc n → (l ≡ fieldOf 0 l ++ 44 ∷ restOf l) × (commasOf (restOf l) ≡ n)
 unfolding fieldOf commasOf upToComma afterCommas restOf
 cut-first [] n e = absurd (omega arith)
 cut-first (b ∷ l) n e = by (eqb b 44) refl (cut-first l n)
@@ -109,7 +96,7 @@ after-after (suc k) (b ∷ l) = by (eqb b 44) (after-after (suc k) l)
     by true ih = refl
     by false ih = ih
 
-pub field-behind : (k : ℕ) (l : List ℕ) → fieldOf (suc k) l ≡ fieldOf k (restOf l)
+field-behind : (k : ℕ) (l : List ℕ) → fieldOf (suc k) l ≡ fieldOf k (restOf l)
 unfolding fieldOf restOf
 field-behind k l = ap upToComma (after-after k l)
 
@@ -129,6 +116,10 @@ same-eq (x ∷ a) (y ∷ b) e = by (eqb x y) refl (same-eq a b)
     by false q ih =
         let f : false ≡ true = sym (rw q) ∙ e in
         let z : _≡_ {A = ℕ} 0 1 = cc in absurd (omega arith)
+
+-- one test of many: the text, or what the others say
+pub tested : {A : Type 0} (P : A → Type 0) (f t : List ℕ) {x y : A} → P y → (f ≡ t → P x) → P (cond (sameAs f t) x y)
+tested P f t q p = cond-of P (sameAs f t) (λ e. p (same-eq f t e)) (λ _. q)
 
 -- n fields, from field k on
 abbrev pub fieldsFrom : ℕ → ℕ → List ℕ → List (List ℕ)
@@ -153,37 +144,24 @@ line-fields (suc n) l e =
     ∙ ap (λ (f : List ℕ). recordOf f (fieldsFrom 1 n (restOf l))) (sym (field-behind 0 l))
     ∙ ap (recordOf (fieldOf 1 l)) (sym (from-behind 1 n l)))
 
--- a text without commas, by a test that computes
-abbrev pub noComma : List ℕ → Bool
-noComma [] = true
-noComma (b ∷ l) = cond (eqb b 44) false (noComma l)
-
-pub no-comma : (l : List ℕ) → T (noComma l) → NoComma l
-no-comma [] t = tt
-no-comma (b ∷ l) t = by (eqb b 44) refl t (no-comma l)
-  where
-    by : (s : Bool) → eqb b 44 ≡ s → T (cond s false (noComma l)) → (T (noComma l) → NoComma l) → (b ≡ 44 → ⊥) × NoComma l
-    by true q t ih = absurd t
-    by false q t ih = (eqb-false b 44 q, ih t)
-
 -- texts without commas, all of them
 abbrev pub NoCommas : List (List ℕ) → Type 0
 NoCommas [] = Unit
-NoCommas (f ∷ fs) = NoComma f × NoCommas fs
+NoCommas (f ∷ fs) = Without 44 f × NoCommas fs
 
 -- the fields of a record of texts without commas are these texts
-pub record-commas : (f : List ℕ) (fs : List (List ℕ)) → NoComma f → NoCommas fs → commasOf (recordOf f fs) ≡ length fs
+pub record-commas : (f : List ℕ) (fs : List (List ℕ)) → Without 44 f → NoCommas fs → commasOf (recordOf f fs) ≡ length fs
 unfolding recordOf
 record-commas f [] p q = commas-plain f p
 record-commas f (g ∷ fs) p q = commas-cut f (recordOf g fs) p ∙ ap suc (record-commas g fs (q .0) (q .1))
 
-pub record-first : (f : List ℕ) (fs : List (List ℕ)) → NoComma f → fieldOf 0 (recordOf f fs) ≡ f
+pub record-first : (f : List ℕ) (fs : List (List ℕ)) → Without 44 f → fieldOf 0 (recordOf f fs) ≡ f
 unfolding recordOf
 record-first f [] p = field-only f p
 record-first f (g ∷ fs) p = field-first f (recordOf g fs) p
 
 pub record-field :
-    (f : List ℕ) (fs : List (List ℕ)) → NoComma f → NoCommas fs → (k : ℕ) → k < length fs → fieldOf (suc k) (recordOf f fs) ≡ getD fs k []
+    (f : List ℕ) (fs : List (List ℕ)) → Without 44 f → NoCommas fs → (k : ℕ) → k < length fs → fieldOf (suc k) (recordOf f fs) ≡ getD fs k []
 unfolding recordOf
 record-field f [] p q k h = absurd (omega arith)
 record-field f (g ∷ fs) p q zero h = field-next 0 f (recordOf g fs) p ∙ record-first g fs (q .0)

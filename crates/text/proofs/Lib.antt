@@ -1,3 +1,4 @@
+pub mod Cases
 pub mod HexText
 pub mod Digits
 pub mod Reading
@@ -6,6 +7,7 @@ pub mod DecimalTrip
 pub mod HexTrip
 pub mod Sign
 pub mod SignedTrip
+pub mod Without
 pub mod FieldWalk
 pub mod Fields
 pub mod PutLaws

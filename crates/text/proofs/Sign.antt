@@ -11,8 +11,9 @@ use lib.IntN.{ℤ, pos, negsuc, natAbs, _-ℤ_}
 use lib.Signed.{ltZ, nonNeg}
 use mir.Syntax.{w64}
 use mir.Val.{Fits, SFits, toZ, ofZ}
-use mir.Facts.{toZ-pos, toZ-ofZ}
-use Rattle.cells.proofs.Mirror.{mirror-neg}
+use mir.Facts.{toZ-pos}
+use mir.ValLaws.{toZ-ofZ}
+use Rattle.cells.proofs.Mirror.{flip-is}
 use Rattle.text.specs.Text.{decimalText, isNegative, signedText}
 use Rattle.text.proofs.DecimalText.{decimal-length}
 
@@ -20,35 +21,25 @@ use Rattle.text.proofs.DecimalText.{decimal-length}
 pub read-pos : (k : ℕ) → k < 2 ^ 63 → toZ w64 k ≡ pos k
 read-pos k h = toZ-pos w64 h
 
-pub back : (z : ℤ) → SFits w64 z → toZ w64 (ofZ w64 z) ≡ z
-back z h = toZ-ofZ h
-
 sign-of : (z : ℤ) → ltZ z (pos 0) ≡ isNegative z
 unfolding isNegative
 sign-of (pos n) = le-ltb n 0 (omega arith)
 sign-of (negsuc n) = refl
 
 pub sign-test : (z : ℤ) → SFits w64 z → ltZ (toZ w64 (ofZ w64 z)) (pos 0) ≡ isNegative z
-sign-test z h = ap (λ (x : ℤ). ltZ x (pos 0)) (back z h) ∙ sign-of z
+sign-test z h = ap (λ (x : ℤ). ltZ x (pos 0)) (toZ-ofZ w64 z h) ∙ sign-of z
 
 -- -1 - z, for z below 0
 abbrev flip : ℤ → ℤ
 flip z = negsuc 0 -ℤ toZ w64 (ofZ w64 z)
 
-flip-is : (k : ℕ) → SFits w64 (negsuc k) → flip (negsuc k) ≡ pos k
-flip-is k h = ap (λ (x : ℤ). negsuc 0 -ℤ x) (back (negsuc k) h) ∙ mirror-neg k
-
 never-below : (n : ℕ) → SFits w64 (pos n) → ltZ (toZ w64 (ofZ w64 (pos n))) (pos 0) ≡ true → ⊥
 never-below n h t =
-    let e : ltb n 0 ≡ true = ap (λ (x : ℤ). ltZ x (pos 0)) (sym (back (pos n) h)) ∙ t in
+    let e : ltb n 0 ≡ true = ap (λ (x : ℤ). ltZ x (pos 0)) (sym (toZ-ofZ w64 (pos n) h)) ∙ t in
     let q : n < 0 = ltb-true n 0 e in omega arith
 
-pub flip-fits : (z : ℤ) → SFits w64 z → ltZ (toZ w64 (ofZ w64 z)) (pos 0) ≡ true → SFits w64 (flip z)
-flip-fits (pos n) h t = absurd (never-below n h t)
-flip-fits (negsuc k) h t = subst (SFits w64) (sym (flip-is k h)) (record { sfits = h .sfits })
-
 -- what the machine reads back of it
-pub flip-read :
+flip-read :
     (z : ℤ)
     → SFits w64 z
     → ltZ (toZ w64 (ofZ w64 z)) (pos 0) ≡ true
@@ -56,7 +47,7 @@ pub flip-read :
 flip-read (pos n) h t = absurd (never-below n h t)
 flip-read (negsuc k) h t =
     let b : k < 2 ^ 63 = h .sfits in
-    (toZ-ofZ (flip-fits (negsuc k) h t) ∙ flip-is k h ∙ ap pos (omega arith), omega arith, omega arith)
+    (flip-is (negsuc k) h t ∙ ap pos (omega arith), omega arith, omega arith)
 
 pub flip-cast :
     (z : ℤ)
@@ -77,7 +68,7 @@ magnitude-fits (negsuc n) h = let b : n < 2 ^ 63 = h .sfits in omega arith
 keep-by : (z : ℤ) → SFits w64 z → ltZ (toZ w64 (ofZ w64 z)) (pos 0) ≡ false → T (nonNeg z)
 keep-by (pos n) h t = tt
 keep-by (negsuc k) h t =
-    let e : _≡_ {A = Bool} true false = ap (λ (x : ℤ). ltZ x (pos 0)) (sym (back (negsuc k) h)) ∙ t in
+    let e : _≡_ {A = Bool} true false = ap (λ (x : ℤ). ltZ x (pos 0)) (sym (toZ-ofZ w64 (negsuc k) h)) ∙ t in
     let q : _≡_ {A = ℕ} 0 1 = cc in absurd (omega arith)
 
 pub keep-cast :
@@ -86,15 +77,15 @@ pub keep-cast :
     → ltZ (toZ w64 (ofZ w64 z)) (pos 0) ≡ false
     → T (nonNeg (toZ w64 (ofZ w64 z))) × Fits w64 (natAbs (toZ w64 (ofZ w64 z)))
 keep-cast z h t =
-    subst (λ (x : ℤ). T (nonNeg x) × Fits w64 (natAbs x)) (sym (back z h)) (keep-by z h t, record { fits = omega (arith, magnitude-fits z h) })
+    subst (λ (x : ℤ). T (nonNeg x) × Fits w64 (natAbs x)) (sym (toZ-ofZ w64 z h)) (keep-by z h t, record { fits = omega (arith, magnitude-fits z h) })
 
 -- what the machine answers of z's sign and magnitude
 module _ (z : ℤ) (h : SFits w64 z) where
   pub sign-read : {r t : Bool} → r ≡ isNegative (toZ w64 (ofZ w64 z)) → r ≡ t → isNegative z ≡ t
-  sign-read e g = sym (e ∙ ap isNegative (back z h)) ∙ g
+  sign-read e g = sym (e ∙ ap isNegative (toZ-ofZ w64 z h)) ∙ g
 
   pub magnitude-read : {r : ℕ} → r ≡ natAbs (toZ w64 (ofZ w64 z)) → r ≡ natAbs z
-  magnitude-read e = e ∙ ap natAbs (back z h)
+  magnitude-read e = e ∙ ap natAbs (toZ-ofZ w64 z h)
 
 -- the text of a signed number
 pub signed-below : (z : ℤ) → isNegative z ≡ true → signedText z ≡ (45 ∷ []) ++ decimalText (natAbs z)

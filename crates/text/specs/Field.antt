@@ -1,4 +1,4 @@
--- The fields of a record, which commas (44) separate (RFC 4180, "no quotes"). Assumes nothing.
+-- The fields of a record (document 01, "Step program": "RFC 4180 records …, no quotes"), which commas (44) separate. Assumes nothing.
 use Prim.Native.Nat.{ℕ, zero, suc}
 use mathlib.Core.List.{List, [], _∷_, _++_}
 use mathlib.Core.Bool.{Bool, true, false, cond}

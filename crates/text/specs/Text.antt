@@ -1,4 +1,4 @@
--- Numbers written as text, and text put into a buffer (document 01, "Step program"). Assumes nothing.
+-- Numbers written as text, the end of a record, and text put into a buffer (document 01, "Step program"). Assumes nothing.
 use Prim.Native.Nat.{ℕ, zero, suc, _+_, _/_, _%_}
 use mathlib.Core.Path.{_≡_}
 use mathlib.Core.List.{List, [], _∷_, _++_}
@@ -14,6 +14,15 @@ pub record Put (before : List ℕ) (at : ℕ) (text after : List ℕ) (next : �
   pub long : length after ≡ length before
   pub holds : take next after ≡ take at before ++ text
   pub kept : drop next after ≡ drop next before
+
+-- "CRLF": a record and the end of its line
+abbrev pub ended : List ℕ → List ℕ
+ended l = l ++ (13 ∷ 10 ∷ [])
+
+-- a text in which the byte b does not stand
+abbrev pub Without : ℕ → List ℕ → Type 0
+Without b [] = Unit {0}
+Without b (x ∷ l) = (x ≡ b → ⊥) × Without b l
 
 -- the digits of n, the most significant first, in at most `steps` of them
 unfoldable pub decimalIn : ℕ → ℕ → List ℕ

@@ -1,4 +1,4 @@
--- How the numbers and the update of a line are read off its fields. Assumes nothing.
+-- How the numbers and the update of a line are read off its fields (document 01, "Step program"). Assumes nothing.
 use Prim.Native.Nat.{ℕ}
 use mathlib.Core.List.{List}
 use mathlib.Core.Bool.{cond}
@@ -13,7 +13,7 @@ use Rattle.cells.specs.declared.Cell.{Cell}
 use Rattle.cells.specs.declared.Update.{Update}
 use Rattle.wording.specs.Names.{blankText, countText, measureText, addText}
 use Rattle.wording.specs.declared.values.MaybeUpdate.{MaybeUpdate}
-use Rattle.wording.specs.declared.values.Word.{Word}
+use Rattle.wording.specs.declared.values.UpdateName.{UpdateName}
 
 -- what is made of a signed number that was read, and of none
 abbrev pub onSigned : {A : Type 0} → A → Signed → (ℤ → A) → A
@@ -32,23 +32,23 @@ signedAt none some l = onSigned none (signedOf (fieldOf 4 l)) some
 unfoldable pub measureAt : List ℕ → MaybeUpdate
 measureAt l = onWhole MaybeUpdate.Not (bitsOf (fieldOf 4 l)) (λ n. MaybeUpdate.Is (Update.Set (Cell.Measure (ofBits binary64 n))))
 
-unfoldable pub wordOf : List ℕ → Word
-wordOf f =
-    cond (sameAs f blankText) Word.Blank (
-    cond (sameAs f countText) Word.Count (
-    cond (sameAs f measureText) Word.Measure (
-    cond (sameAs f addText) Word.Add (
-    Word.Unknown))))
+unfoldable pub updateNameOf : List ℕ → UpdateName
+updateNameOf f =
+    cond (sameAs f blankText) UpdateName.Blank (
+    cond (sameAs f countText) UpdateName.Count (
+    cond (sameAs f measureText) UpdateName.Measure (
+    cond (sameAs f addText) UpdateName.Add (
+    UpdateName.Unknown))))
 
--- the update by its word, of a line with n commas
-unfoldable pub updateBy : Word → ℕ → List ℕ → MaybeUpdate
+-- the update by its name, of a line with n commas
+unfoldable pub updateBy : UpdateName → ℕ → List ℕ → MaybeUpdate
 unfolding signedAt measureAt
-updateBy Word.Blank n l = cond (eqb n 3) (MaybeUpdate.Is (Update.Set Cell.Blank)) MaybeUpdate.Not
-updateBy Word.Count n l = cond (eqb n 4) (signedAt MaybeUpdate.Not (λ z. MaybeUpdate.Is (Update.Set (Cell.Count z))) l) MaybeUpdate.Not
-updateBy Word.Measure n l = cond (eqb n 4) (measureAt l) MaybeUpdate.Not
-updateBy Word.Add n l = cond (eqb n 4) (signedAt MaybeUpdate.Not (λ z. MaybeUpdate.Is (Update.Add z)) l) MaybeUpdate.Not
-updateBy Word.Unknown n l = MaybeUpdate.Not
+updateBy UpdateName.Blank n l = cond (eqb n 3) (MaybeUpdate.Is (Update.Set Cell.Blank)) MaybeUpdate.Not
+updateBy UpdateName.Count n l = cond (eqb n 4) (signedAt MaybeUpdate.Not (λ z. MaybeUpdate.Is (Update.Set (Cell.Count z))) l) MaybeUpdate.Not
+updateBy UpdateName.Measure n l = cond (eqb n 4) (measureAt l) MaybeUpdate.Not
+updateBy UpdateName.Add n l = cond (eqb n 4) (signedAt MaybeUpdate.Not (λ z. MaybeUpdate.Is (Update.Add z)) l) MaybeUpdate.Not
+updateBy UpdateName.Unknown n l = MaybeUpdate.Not
 
 unfoldable pub updateAt : ℕ → List ℕ → MaybeUpdate
-unfolding updateBy wordOf
-updateAt n l = updateBy (wordOf (fieldOf 3 l)) n l
+unfolding updateBy updateNameOf
+updateAt n l = updateBy (updateNameOf (fieldOf 3 l)) n l

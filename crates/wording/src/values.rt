@@ -1,7 +1,7 @@
 // The numbers and the update that the fields of a line are.
 ghost use mathlib.Core.Path.{_≡_};
 ghost use lib.Ieee.{ofBits, binary64};
-ghost use Rattle.wording.specs.Values.{numberAt, signedAt, measureAt, wordOf, updateAt};
+ghost use Rattle.wording.specs.Values.{numberAt, signedAt, measureAt, updateNameOf, updateAt};
 use cells::Cell;
 use cells::Update;
 use text::field::field;
@@ -18,8 +18,8 @@ pub enum MaybeUpdate {
     Not,
 }
 
-// The word by which an update says what it does.
-pub enum Word {
+// The name by which an update says what it does.
+pub enum UpdateName {
     Blank,
     Count,
     Measure,
@@ -34,30 +34,30 @@ pub fn number_at(line: &[u8], k: usize) -> Whole
     decimal(field(line, k), 9223372036854775807)
 }
 
-// The word that a field is.
-pub fn word_of(f: &[u8]) -> Word
-    ensures { λ r. ⌜ r ≡ wordOf (now (f .entry)) ⌝ }
+// The name that a field is.
+pub fn update_name_of(f: &[u8]) -> UpdateName
+    ensures { λ r. ⌜ r ≡ updateNameOf (now (f .entry)) ⌝ }
 {
     if same(f, b"blank") {
-        return Word::Blank;
+        return UpdateName::Blank;
     }
     if same(f, b"count") {
-        return Word::Count;
+        return UpdateName::Count;
     }
     if same(f, b"measure") {
-        return Word::Measure;
+        return UpdateName::Measure;
     }
     if same(f, b"add") {
-        return Word::Add;
+        return UpdateName::Add;
     }
-    Word::Unknown
+    UpdateName::Unknown
 }
 
 // The measured number of a pattern. Every pattern of a NaN gives the one NaN.
 fn float_of(n: u64) -> f64
     ensures { λ r. ⌜ r ≡ ofBits binary64 n ⌝ }
 {
-    if 9218868437227405312 < n % 9223372036854775808 {
+    if 0x7FF0_0000_0000_0000 < n % 0x8000_0000_0000_0000 {
         return 0.0 / 0.0;
     }
     f64::from_bits(n)
@@ -94,35 +94,35 @@ fn set_measure(line: &[u8]) -> MaybeUpdate
 pub fn update_at(line: &[u8], n: usize) -> MaybeUpdate
     ensures { λ r. ⌜ r ≡ updateAt n (now (line .entry)) ⌝ }
 {
-    match word_of(field(line, 3)) {
-        Word::Blank => {
+    match update_name_of(field(line, 3)) {
+        UpdateName::Blank => {
             if n == 3 {
                 MaybeUpdate::Is(Update::Set(Cell::Blank))
             } else {
                 MaybeUpdate::Not
             }
         }
-        Word::Count => {
+        UpdateName::Count => {
             if n == 4 {
                 set_count(line)
             } else {
                 MaybeUpdate::Not
             }
         }
-        Word::Measure => {
+        UpdateName::Measure => {
             if n == 4 {
                 set_measure(line)
             } else {
                 MaybeUpdate::Not
             }
         }
-        Word::Add => {
+        UpdateName::Add => {
             if n == 4 {
                 add_number(line)
             } else {
                 MaybeUpdate::Not
             }
         }
-        Word::Unknown => MaybeUpdate::Not,
+        UpdateName::Unknown => MaybeUpdate::Not,
     }
 }

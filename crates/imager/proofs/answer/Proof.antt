@@ -1,4 +1,4 @@
--- `imager::answer` meets its contract: the line lies within the buffer.
+-- `imager::answer` is safe: the line lies within the buffer.
 -- Assumes nothing.
 use mathlib.Core.Path.{sym}
 use lib.Seq.{length-take-le}

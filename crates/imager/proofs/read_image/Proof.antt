@@ -1,4 +1,4 @@
--- `imager::read_image` meets its contract: the text lies within the buffer.
+-- `imager::read_image` is safe: the text lies within the buffer.
 -- Assumes nothing.
 use mathlib.Core.Path.{sym}
 use lib.Seq.{length-take-le}

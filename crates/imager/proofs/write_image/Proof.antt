@@ -1,4 +1,4 @@
--- `imager::write_image` meets its contract: the image lies within the buffer.
+-- `imager::write_image` is safe: the image lies within the buffer.
 -- Assumes nothing.
 use mathlib.Core.Path.{ap, sym}
 use lib.Seq.{length-take-le}

@@ -1,4 +1,4 @@
--- `stepper::answer_rest` meets its contract: the answer stands within the buffer.
+-- `stepper::answer_rest` is safe: the answer stands within the buffer.
 -- Assumes nothing.
 use mathlib.Core.Path.{sym}
 use lib.Seq.{length-take-le}

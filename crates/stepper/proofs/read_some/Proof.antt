@@ -1,4 +1,4 @@
--- `stepper::read_some` meets its contract: the answers stand within the buffer.
+-- `stepper::read_some` is safe: the answers stand within the buffer.
 -- Assumes nothing.
 use mathlib.Core.Path.{sym}
 use lib.Seq.{length-take-le}
@@ -6,9 +6,6 @@ use Rattle.stepping.proofs.Feeding.{chunk-within}
 use borrow.Author.Needs.{needs}
 use Rattle.stepper.proofs.read_some.Statement.{statement}
 use Rattle.stepper.proofs.read_some.Tie as tie
-
-buffer-requires : tie.Need-buffer-requires
-buffer-requires c κs = search needs
 
 slice-aggregate-read : tie.Need-slice-aggregate-read
 slice-aggregate-read c = search needs
@@ -53,7 +50,6 @@ pub read-some-spec : {M : Type 1} → statement M
 read-some-spec =
     tie.close
     (tie.spec
-    buffer-requires
     slice-aggregate-read
     read-requires
     returns

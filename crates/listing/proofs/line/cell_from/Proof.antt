@@ -1,8 +1,6 @@
--- `listing::line::cell_from` meets its contract.
--- Assumes nothing.
 use borrow.Author.Tests.{eq-eqb, ne-eqb}
 use mathlib.Core.Path.{_∙_, ap, sym}
-use Rattle.wording.specs.Values.{wordOf}
+use Rattle.wording.specs.Values.{updateNameOf}
 use Rattle.listing.specs.Texts.{cellBy, cellFrom, countOf, measureOf}
 use borrow.Author.Needs.{needs}
 use Rattle.listing.proofs.line.cell_from.Statement.{statement}
@@ -14,8 +12,8 @@ commas-requires c κs = search needs
 field-requires : tie.Need-field-requires
 field-requires c κs = search needs
 
-word-of-requires : tie.Need-word-of-requires
-word-of-requires c κs = search needs
+update-name-of-requires : tie.Need-update-name-of-requires
+update-name-of-requires c κs = search needs
 
 enum-told : tie.Need-enum-told
 enum-told c = search needs
@@ -47,7 +45,7 @@ enum-told-5 c = search needs
 returns : tie.Need-returns
 unfolding cellFrom cellBy
 returns c = rw (
-  sym (c .before .before .before .word-of .ensures ∙ ap wordOf (c .before .before .before .before .field .ensures)) ∙ c .before .enum-told .given .1,
+  sym (c .before .before .before .update-name-of .ensures ∙ ap updateNameOf (c .before .before .before .before .field .ensures)) ∙ c .before .enum-told .given .1,
   sym (c .before .before .before .before .before .commas .ensures),
   eq-eqb _ _ (c .if1 .taken),
 )
@@ -55,7 +53,7 @@ returns c = rw (
 returns-2 : tie.Need-returns-2
 unfolding cellFrom cellBy
 returns-2 c = rw (
-  sym (c .before .before .before .word-of .ensures ∙ ap wordOf (c .before .before .before .before .field .ensures)) ∙ c .before .enum-told .given .1,
+  sym (c .before .before .before .update-name-of .ensures ∙ ap updateNameOf (c .before .before .before .before .field .ensures)) ∙ c .before .enum-told .given .1,
   sym (c .before .before .before .before .before .commas .ensures),
   ne-eqb _ _ (c .if1 .left),
 )
@@ -63,7 +61,7 @@ returns-2 c = rw (
 returns-3 : tie.Need-returns-3
 unfolding cellFrom cellBy
 returns-3 c = c .count-of .ensures ∙ ap countOf (c .before .field2 .ensures) ∙ rw (
-  sym (c .before .before .before .before .before .word-of .ensures ∙ ap wordOf (c .before .before .before .before .before .before .field .ensures)) ∙ c .before .before .before .enum-told2 .given .1,
+  sym (c .before .before .before .before .before .update-name-of .ensures ∙ ap updateNameOf (c .before .before .before .before .before .before .field .ensures)) ∙ c .before .before .before .enum-told2 .given .1,
   sym (c .before .before .before .before .before .before .before .commas .ensures),
   eq-eqb _ _ (c .before .before .if2 .taken),
 )
@@ -71,7 +69,7 @@ returns-3 c = c .count-of .ensures ∙ ap countOf (c .before .field2 .ensures) �
 returns-4 : tie.Need-returns-4
 unfolding cellFrom cellBy
 returns-4 c = rw (
-  sym (c .before .before .before .word-of .ensures ∙ ap wordOf (c .before .before .before .before .field .ensures)) ∙ c .before .enum-told2 .given .1,
+  sym (c .before .before .before .update-name-of .ensures ∙ ap updateNameOf (c .before .before .before .before .field .ensures)) ∙ c .before .enum-told2 .given .1,
   sym (c .before .before .before .before .before .commas .ensures),
   ne-eqb _ _ (c .if2 .left),
 )
@@ -79,7 +77,7 @@ returns-4 c = rw (
 returns-5 : tie.Need-returns-5
 unfolding cellFrom cellBy
 returns-5 c = c .measure-of .ensures ∙ ap measureOf (c .before .field3 .ensures) ∙ rw (
-  sym (c .before .before .before .before .before .word-of .ensures ∙ ap wordOf (c .before .before .before .before .before .before .field .ensures)) ∙ c .before .before .before .enum-told3 .given .1,
+  sym (c .before .before .before .before .before .update-name-of .ensures ∙ ap updateNameOf (c .before .before .before .before .before .before .field .ensures)) ∙ c .before .before .before .enum-told3 .given .1,
   sym (c .before .before .before .before .before .before .before .commas .ensures),
   eq-eqb _ _ (c .before .before .if3 .taken),
 )
@@ -87,18 +85,18 @@ returns-5 c = c .measure-of .ensures ∙ ap measureOf (c .before .field3 .ensure
 returns-6 : tie.Need-returns-6
 unfolding cellFrom cellBy
 returns-6 c = rw (
-  sym (c .before .before .before .word-of .ensures ∙ ap wordOf (c .before .before .before .before .field .ensures)) ∙ c .before .enum-told3 .given .1,
+  sym (c .before .before .before .update-name-of .ensures ∙ ap updateNameOf (c .before .before .before .before .field .ensures)) ∙ c .before .enum-told3 .given .1,
   sym (c .before .before .before .before .before .commas .ensures),
   ne-eqb _ _ (c .if3 .left),
 )
 
 returns-7 : tie.Need-returns-7
 unfolding cellFrom cellBy
-returns-7 c = rw (sym (c .before .before .word-of .ensures ∙ ap wordOf (c .before .before .before .field .ensures)) ∙ c .enum-told4 .given .1)
+returns-7 c = rw (sym (c .before .before .update-name-of .ensures ∙ ap updateNameOf (c .before .before .before .field .ensures)) ∙ c .enum-told4 .given .1)
 
 returns-8 : tie.Need-returns-8
 unfolding cellFrom cellBy
-returns-8 c = rw (sym (c .before .before .word-of .ensures ∙ ap wordOf (c .before .before .before .field .ensures)) ∙ c .enum-told5 .given .1)
+returns-8 c = rw (sym (c .before .before .update-name-of .ensures ∙ ap updateNameOf (c .before .before .before .field .ensures)) ∙ c .enum-told5 .given .1)
 
 pub cell-from-spec : {M : Type 1} → statement M
 cell-from-spec =
@@ -106,7 +104,7 @@ cell-from-spec =
     (tie.spec
     commas-requires
     field-requires
-    word-of-requires
+    update-name-of-requires
     enum-told
     enum-told-2
     field-requires-2

@@ -1,5 +1,3 @@
--- `listing::line::count_of` meets its contract.
--- Assumes nothing.
 use mathlib.Core.Path.{_∙_, ap, sym}
 use lib.IntN.{ℤ}
 use mir.Facts.{toZ-ofZ}

@@ -1,5 +1,3 @@
--- `listing::line::finite_of` meets its contract.
--- Assumes nothing.
 use mathlib.Core.Path.{_∙_, ap, sym}
 use borrow.Author.Needs.{needs}
 use Rattle.cells.specs.declared.Cell.the-variants.{Measure}

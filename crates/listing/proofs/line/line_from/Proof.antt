@@ -19,7 +19,7 @@ none-requires : tie.Need-none-requires Inv-loop μ-loop
 none-requires c κs = search needs
 
 loop-holds : tie.Need-loop-holds Inv-loop μ-loop
-loop-holds c = (refl, seen-none _ _ _ _ (c .before .before .before .pre .0) (c .none .ensures .0) (c .none .ensures .1))
+loop-holds c = (refl, seen-none _ _ _ _ (c .before .before .before .pre .0) (c .none .ensures))
 
 shared-slice-read-feed : tie.Need-shared-slice-read-feed Inv-loop μ-loop
 shared-slice-read-feed c = omega arith

@@ -1,5 +1,3 @@
--- `listing::line::measure_of` meets its contract.
--- Assumes nothing.
 use mathlib.Core.Path.{_∙_, sym}
 use borrow.Author.Needs.{needs}
 use Rattle.listing.specs.Texts.{measureOf}

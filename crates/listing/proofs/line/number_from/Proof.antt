@@ -1,5 +1,3 @@
--- `listing::line::number_from` meets its contract.
--- Assumes nothing.
 use mathlib.Core.Path.{_∙_, ap, sym}
 use mathlib.Core.List.{List}
 use Prim.Native.Nat.{ℕ}

@@ -6,13 +6,14 @@ use native.Mathlib.Omega.{arith}
 use denote.Ref.{now}
 use borrow.Author.Needs.{needs}
 use lib.ListN.{length}
-use Rattle.stepping.specs.Bytes.{CHUNK, place}
-use Rattle.stepping.proofs.Feeding.{Sofar, sofar-none, sofar-more, sofar-all, fed-take}
+use Rattle.stepping.specs.Bytes.{CHUNK, standing}
+use Rattle.answering.proofs.Asking.{take-min}
+use Rattle.stepping.proofs.Feeding.{Sofar, sofar-none, sofar-more, sofar-all}
 use Rattle.stepping.proofs.feed.feed_chunk.Statement.{statement}
 use Rattle.stepping.proofs.feed.feed_chunk.Tie as tie
 
 abbrev Inv-loop : tie.InvT-loop
-Inv-loop t₀ line₀ chunk out₀ n run₀ i₀ t line out run i = (i ≤ n) × (length t ≡ length t₀) × Sofar (place line₀ (run₀ .pending) t₀) chunk out₀ i out (run .at) (place line (run .pending) t)
+Inv-loop t₀ line₀ chunk out₀ n run₀ i₀ t line out run i = (i ≤ n) × (length t ≡ length t₀) × Sofar (standing line₀ (run₀ .unended) t₀) chunk out₀ i out (run .at) (standing line (run .unended) t)
 
 abbrev μ-loop : tie.MeasureT-loop
 μ-loop t₀ line₀ chunk out₀ n run₀ i₀ t line out run i = n - i
@@ -45,7 +46,7 @@ same-length : tie.Need-same-length Inv-loop μ-loop
 same-length c = c .before .loop .inv .1
 
 returns : tie.Need-returns Inv-loop μ-loop
-returns c = let l = c .before .loop in sofar-all _ _ _ (l .i) CHUNK _ _ _ (fed-take (l .i) CHUNK (now (c .before .before .before .before .before .args .chunk)) (omega arith)) (l .inv .2)
+returns c = let l = c .before .loop in sofar-all _ _ _ (l .i) CHUNK _ _ _ (take-min (l .i) CHUNK (now (c .before .before .before .before .before .args .chunk)) (omega arith)) (l .inv .2)
 
 pub feed-chunk-spec : {M : Type 1} → statement M
 feed-chunk-spec =

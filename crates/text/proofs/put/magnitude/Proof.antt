@@ -1,4 +1,5 @@
-use Rattle.text.proofs.Sign.{flip-fits, flip-cast, flip-magnitude, magnitude-fits, keep-cast}
+use Rattle.cells.proofs.Mirror.{flip-fits}
+use Rattle.text.proofs.Sign.{flip-cast, flip-magnitude, magnitude-fits, keep-cast}
 use native.Mathlib.Omega.{arith}
 use borrow.Author.Needs.{needs}
 use Rattle.text.proofs.put.magnitude.Statement.{statement}

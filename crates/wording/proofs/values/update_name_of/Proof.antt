@@ -1,8 +1,8 @@
 use mathlib.Core.Path.{sym, _∙_}
-use Rattle.wording.specs.Values.{wordOf}
+use Rattle.wording.specs.Values.{updateNameOf}
 use borrow.Author.Needs.{needs}
-use Rattle.wording.proofs.values.word_of.Statement.{statement}
-use Rattle.wording.proofs.values.word_of.Tie as tie
+use Rattle.wording.proofs.values.update_name_of.Statement.{statement}
+use Rattle.wording.proofs.values.update_name_of.Tie as tie
 
 slice-aggregate-same : tie.Need-slice-aggregate-same
 slice-aggregate-same c = search needs
@@ -11,7 +11,7 @@ same-requires : tie.Need-same-requires
 same-requires c κs = search needs
 
 returns : tie.Need-returns
-unfolding wordOf
+unfolding updateNameOf
 returns c = rw (
     sym (c .before .same .ensures) ∙ c .if1 .taken)
 
@@ -22,7 +22,7 @@ same-requires-2 : tie.Need-same-requires-2
 same-requires-2 c κs = search needs
 
 returns-2 : tie.Need-returns-2
-unfolding wordOf
+unfolding updateNameOf
 returns-2 c = rw (
   sym (c .before .before .before .before .same .ensures) ∙ c .before .before .before .if1 .left,
   sym (c .before .same2 .ensures) ∙ c .if2 .taken,
@@ -35,7 +35,7 @@ same-requires-3 : tie.Need-same-requires-3
 same-requires-3 c κs = search needs
 
 returns-3 : tie.Need-returns-3
-unfolding wordOf
+unfolding updateNameOf
 returns-3 c = rw (
   sym (c .before .before .before .before .before .before .before .same .ensures) ∙ c .before .before .before .before .before .before .if1 .left,
   sym (c .before .before .before .before .same2 .ensures) ∙ c .before .before .before .if2 .left,
@@ -49,7 +49,7 @@ same-requires-4 : tie.Need-same-requires-4
 same-requires-4 c κs = search needs
 
 returns-4 : tie.Need-returns-4
-unfolding wordOf
+unfolding updateNameOf
 returns-4 c = rw (
   sym (c .before .before .before .before .before .before .before .before .before .before .same .ensures) ∙ c .before .before .before .before .before .before .before .before .before .if1 .left,
   sym (c .before .before .before .before .before .before .before .same2 .ensures) ∙ c .before .before .before .before .before .before .if2 .left,
@@ -58,7 +58,7 @@ returns-4 c = rw (
 )
 
 returns-5 : tie.Need-returns-5
-unfolding wordOf
+unfolding updateNameOf
 returns-5 c = rw (
   sym (c .before .before .before .before .before .before .before .before .before .before .same .ensures) ∙ c .before .before .before .before .before .before .before .before .before .if1 .left,
   sym (c .before .before .before .before .before .before .before .same2 .ensures) ∙ c .before .before .before .before .before .before .if2 .left,
@@ -66,8 +66,8 @@ returns-5 c = rw (
   sym (c .before .same4 .ensures) ∙ c .if4 .left,
 )
 
-pub word-of-spec : {M : Type 1} → statement M
-word-of-spec =
+pub update-name-of-spec : {M : Type 1} → statement M
+update-name-of-spec =
     tie.close
     (tie.spec
     slice-aggregate-same
