@@ -18,7 +18,7 @@ use Rattle.record.proofs.Same.{queue-same}
 use Rattle.queues.specs.Items.{itemsOf}
 use Rattle.queues.specs.Parts.{Movable, Moved, Requeued, roundEntry, itemEntry}
 use Rattle.queues.proofs.Entries.{round-local, queue-moved}
-use Rattle.link.specs.Deliver.{Deliverable}
+use Rattle.delivery.specs.Deliver.{Deliverable}
 use Rattle.link.specs.Gather.{firstWaiting}
 use Rattle.link.specs.Settle.{NumberTaken, HungUp}
 use Rattle.link.specs.Waiting.{gone, HasWaiting}

@@ -2,7 +2,6 @@ pub mod Links
 pub mod Goes
 pub mod EndLaws
 pub mod Gathers
-pub mod Delivers
 pub mod Requests
 pub mod Settles
 pub mod Once

@@ -20,7 +20,7 @@ use Rattle.queues.specs.Parts.{Requeued, roundEntry, itemEntry}
 use Rattle.queues.proofs.Entries.{item-local, requeued-outside}
 use Rattle.queues.proofs.Parts.{WordsAre, parts-of}
 use Rattle.record.proofs.Steps.{told}
-use Rattle.link.specs.Deliver.{ItemReady, Stackable}
+use Rattle.delivery.specs.Deliver.{ItemReady, Stackable}
 use Rattle.link.specs.Turn.{Turned}
 use Rattle.link.proofs.Links.{Chain, requeued-same, channel-kept, link-turned}
 

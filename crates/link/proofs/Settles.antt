@@ -14,7 +14,7 @@ use Rattle.queues.specs.Items.{itemsOf}
 use Rattle.queues.specs.Parts.{QueueIs, Requeued, roundEntry, itemEntry}
 use Rattle.queues.proofs.Entries.{round-local, item-local, queue-kept, requeued-outside}
 use Rattle.queues.proofs.Parts.{WordsAre, Parts, parts-of}
-use Rattle.link.specs.Deliver.{Deliverable}
+use Rattle.delivery.specs.Deliver.{Deliverable}
 use Rattle.link.specs.Gather.{firstWaiting}
 use Rattle.link.specs.Settle.{NumberTaken, HungUp, Settling, settled, Settled}
 use Rattle.link.specs.Waiting.{gone, HasWaiting}

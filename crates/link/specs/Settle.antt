@@ -9,7 +9,7 @@ use Rattle.protocol.specs.Machine.{Device, Item, choose, given, isHeld, batched
 use Rattle.sheet.specs.Sheet.{sheet}
 use Rattle.words.specs.Layout.{ITEM·KIND, ITEM·NUMBERS, SEGMENT, TAKEN, REQUEST, CONNECTION}
 use Rattle.record.specs.Reading.{givenBy, itemAt, deviceOf}
-use Rattle.link.specs.Deliver.{ItemReady}
+use Rattle.delivery.specs.Deliver.{ItemReady}
 use Rattle.link.specs.Ends.{ended}
 use Rattle.link.specs.Turn.{Sound, Turned}
 

@@ -8,11 +8,11 @@ ghost use Rattle.words.specs.Layout.{CONNECTION, ITEM·KIND, ITEMS, ITEMS·LENG
 ghost use Rattle.record.specs.Reading.{connectionOf, itemAt};
 ghost use Rattle.queues.specs.Items.{itemsOf};
 ghost use Rattle.queues.specs.Parts.{itemEntry, Requeued};
-ghost use Rattle.link.specs.Deliver.{Deliverable};
+ghost use Rattle.delivery.specs.Deliver.{Deliverable};
 ghost use Rattle.link.specs.Settle.{NumberTaken, HungUp, Settling, Settled};
-use crate::deliver::deliver;
 use crate::waiting::drop_waiting;
 use crate::waiting::going;
+use delivery::deliver::deliver;
 use words::layout::CONNECTION;
 use words::layout::ITEM_NUMBERS;
 use words::layout::LIVE;

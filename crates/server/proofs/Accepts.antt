@@ -12,7 +12,7 @@ use Rattle.words.specs.Layout.{DEVICES, CELLS}
 use Rattle.table.specs.Table.{reading, IsTable}
 use Rattle.table.specs.Promise.{Stepped}
 use Rattle.table.proofs.Lifted.{no-device}
-use Rattle.link.specs.Deliver.{ItemReady}
+use Rattle.delivery.specs.Deliver.{ItemReady}
 use Rattle.server.specs.Prefix.{PrefixIs}
 
 -- The machine's accept puts the present prefix.

@@ -28,7 +28,7 @@ use Rattle.table.specs.Promise.{Became, Each}
 use Rattle.table.proofs.Part.{record-same}
 use Rattle.table.proofs.Tables.{device-at, taken-at, record-of}
 use Rattle.server.specs.Batch.{tableBatched, Took}
-use Rattle.link.specs.Deliver.{ItemReady}
+use Rattle.delivery.specs.Deliver.{ItemReady}
 use Rattle.server.specs.Gather.{TableReady, Gathered}
 use Rattle.link.specs.Settle.{settled, Settled}
 use Rattle.link.specs.Turn.{Turned, Sound}

@@ -4,7 +4,7 @@ ghost use lib.Dec.{ltb};
 ghost use lib.ListN.{getD};
 ghost use Rattle.words.specs.Layout.{ITEM·KIND, SEGMENT};
 ghost use Rattle.table.specs.Promise.{Each};
-ghost use Rattle.link.specs.Deliver.{ItemReady};
+ghost use Rattle.delivery.specs.Deliver.{ItemReady};
 ghost use Rattle.link.specs.Settle.{Settled};
 ghost use Rattle.server.specs.Turn.{AllSound};
 use link::settle::settle;

@@ -24,7 +24,7 @@ use Rattle.queues.specs.Parts.{Entry, itemEntry, PutEntry, QueueIs, Requeued}
 use Rattle.queues.proofs.Entries.{LocalEntry, item-local, queue-added}
 use Rattle.queues.proofs.Items.{is-prefix, is-segment, no-prefix}
 use Rattle.queues.proofs.Joins.{prefix-made, segment-made, given-word, later-word, later-positive}
-use Rattle.link.specs.Deliver.{Storable, Stackable, JoinableTo, Deliverable}
+use Rattle.delivery.specs.Deliver.{Storable, Stackable, JoinableTo, Deliverable}
 
 -- Numbers are stored, and then places: y2 has both, and the other words of x0.
 module _ (devices cells : ℕ) (x0 y1 y2 : List ℕ) (to : ℕ) (few : devices ≤ 8) (f : ℕ → ℕ) (N : Numbers x0 y1 (to + ITEM·NUMBERS) devices f) (P : Place) (g : ℕ → P .Holds) (F : Filled P y1 y2 (to + ITEM·PLACES) cells g) where

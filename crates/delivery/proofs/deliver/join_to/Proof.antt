@@ -1,9 +1,9 @@
--- `link::deliver::join_to` meets its contract: numbers are taken over, and the changes applied or joined.
+-- `delivery::deliver::join_to` meets its contract: numbers are taken over, and the changes applied or joined.
 -- Assumes nothing.
-use Rattle.link.proofs.Delivers.{numbers-fit, apply-across, join-across, prefix-joined-to, segment-joined-to}
+use Rattle.delivery.proofs.Delivers.{numbers-fit, apply-across, join-across, prefix-joined-to, segment-joined-to}
 use borrow.Author.Needs.{needs}
-use Rattle.link.proofs.deliver.join_to.Statement.{statement}
-use Rattle.link.proofs.deliver.join_to.Tie as tie
+use Rattle.delivery.proofs.deliver.join_to.Statement.{statement}
+use Rattle.delivery.proofs.deliver.join_to.Tie as tie
 
 mul-kind : tie.Need-mul-kind
 mul-kind c = search needs

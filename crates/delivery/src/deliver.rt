@@ -6,7 +6,7 @@ ghost use Rattle.words.specs.Layout.{ITEM·KIND, ITEMS, ITEMS·LENGTH};
 ghost use Rattle.record.specs.Reading.{itemAt};
 ghost use Rattle.queues.specs.Items.{itemsOf};
 ghost use Rattle.queues.specs.Parts.{itemEntry, PutEntry, Requeued};
-ghost use Rattle.link.specs.Deliver.{Storable, Stackable, JoinableTo, Deliverable};
+ghost use Rattle.delivery.specs.Deliver.{Storable, Stackable, JoinableTo, Deliverable};
 use words::across::apply_changes_from;
 use words::across::copy_cells_from;
 use words::across::copy_changes_from;

@@ -1,11 +1,11 @@
--- `link::deliver::put_item` meets its contract: kind, numbers and places are copied.
+-- `delivery::deliver::put_item` meets its contract: kind, numbers and places are copied.
 -- Assumes nothing.
 use native.Mathlib.Omega.{arith}
 use lib.ListN.{length-set}
-use Rattle.link.proofs.Delivers.{numbers-fit, cells-across, changes-across, prefix-stored, segment-stored}
+use Rattle.delivery.proofs.Delivers.{numbers-fit, cells-across, changes-across, prefix-stored, segment-stored}
 use borrow.Author.Needs.{needs}
-use Rattle.link.proofs.deliver.put_item.Statement.{statement}
-use Rattle.link.proofs.deliver.put_item.Tie as tie
+use Rattle.delivery.proofs.deliver.put_item.Statement.{statement}
+use Rattle.delivery.proofs.deliver.put_item.Tie as tie
 
 shared-slice-read-kind : tie.Need-shared-slice-read-kind
 shared-slice-read-kind c = search needs

@@ -1,9 +1,9 @@
--- `link::deliver::put_behind` meets its contract: the item is stored behind the last, and the length grows.
+-- `delivery::deliver::put_behind` meets its contract: the item is stored behind the last, and the length grows.
 -- Assumes nothing.
-use Rattle.link.proofs.Delivers.{put-behind-last}
+use Rattle.delivery.proofs.Delivers.{put-behind-last}
 use borrow.Author.Needs.{needs}
-use Rattle.link.proofs.deliver.put_behind.Statement.{statement}
-use Rattle.link.proofs.deliver.put_behind.Tie as tie
+use Rattle.delivery.proofs.deliver.put_behind.Statement.{statement}
+use Rattle.delivery.proofs.deliver.put_behind.Tie as tie
 
 slice-read-n : tie.Need-slice-read-n
 slice-read-n c = search needs

@@ -1,10 +1,10 @@
--- `link::deliver::deliver` meets its contract: behind the last, or joined to it.
+-- `delivery::deliver::deliver` meets its contract: behind the last, or joined to it.
 -- Assumes nothing.
 use native.Mathlib.Omega.{arith}
-use Rattle.link.proofs.Delivers.{stackable, last-behind, last-joinable, last-joined}
+use Rattle.delivery.proofs.Delivers.{stackable, last-behind, last-joinable, last-joined}
 use borrow.Author.Needs.{needs}
-use Rattle.link.proofs.deliver.deliver.Statement.{statement}
-use Rattle.link.proofs.deliver.deliver.Tie as tie
+use Rattle.delivery.proofs.deliver.deliver.Statement.{statement}
+use Rattle.delivery.proofs.deliver.deliver.Tie as tie
 
 slice-read-if1 : tie.Need-slice-read-if1
 slice-read-if1 c = search needs
