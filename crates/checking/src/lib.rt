@@ -1,4 +1,3 @@
-// Whether words are a device's record: one test for each condition on them.
+// Whether words are a device's record: a test for each condition on them.
 pub mod check;
-mod entries;
 mod link;

@@ -2,8 +2,6 @@ pub mod Operations
 pub mod Pushes
 pub mod Renews
 pub mod Updates
-pub mod Confirms
-pub mod Looks
 pub mod Sends
 pub mod Pulls
 pub mod Receives

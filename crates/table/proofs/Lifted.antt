@@ -16,9 +16,9 @@ use Rattle.words.specs.Layout.{TAKEN, DEVICES, CELLS}
 use Rattle.record.specs.Reading.{deviceOf}
 use Rattle.record.specs.Did.{Did, Tells}
 use Rattle.device.specs.Named.{stepOf, tableStep}
-use Rattle.device.specs.Look.{questionOf, questionStep}
-use Rattle.device.specs.declared.look.Question.{Question}
-use Rattle.device.specs.declared.look.Question.the-variants.{Read, Confirmed}
+use Rattle.looking.specs.Look.{questionOf, questionStep}
+use Rattle.looking.specs.declared.look.Question.{Question}
+use Rattle.looking.specs.declared.look.Question.the-variants.{Read, Confirmed}
 use Rattle.device.specs.declared.step.Operation.{Operation}
 use Rattle.device.specs.declared.step.Operation.the-variants.{Push, Send, Ask, Drop, Receive, Pull}
 use Rattle.table.specs.Table.{recordAt, reading, IsTable}
