@@ -13,9 +13,9 @@ ghost use Rattle.block.specs.Block.{updatesIn, refusalOf, lookedAt, Walk
 use cells::Update;
 use cells::stored::is_finite_update;
 use device::step::Operation;
+use devices::calls::on_known;
 use protocol::Refusal;
 use sheet::Answer;
-use table::calls::on_known;
 use table::check::is_table;
 use words::layout::CELLS;
 use words::layout::DEVICES;

@@ -5,12 +5,12 @@ use block::Entry;
 use block::block_of;
 use cells::Cell;
 use cells::Update;
+use devices::calls::read;
 use libc::STDOUT_FILENO;
 use showing::show_answer;
 use showing::show_changes;
 use showing::write;
 use table::begin::start;
-use table::calls::read;
 use words::layout::RECORD;
 use words::layout::RECORDS;
 

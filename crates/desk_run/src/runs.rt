@@ -1,4 +1,8 @@
 // Document 01's "Run" lines: "push 1,000,000 done, next 9; accept and 8 batches, each moving a round, unread, leave 8 items".
+use devices::calls::ask;
+use devices::calls::push;
+use devices::calls::receive;
+use devices::calls::send;
 use libc::STDOUT_FILENO;
 use server::calls::accept;
 use server::calls::batch;
@@ -7,10 +11,6 @@ use showing::is_done;
 use showing::show_answer;
 use showing::write;
 use table::begin::start;
-use table::calls::ask;
-use table::calls::push;
-use table::calls::receive;
-use table::calls::send;
 use words::layout::RECORD;
 use words::layout::RECORDS;
 

@@ -1,4 +1,3 @@
-// The lent table: a header with the server's sheet, then a record for each device. Every call works on any slice.
+// The lent table: a header with the server's sheet, then a record for each device. Whether contents are one, and its beginning.
 pub mod begin;
-pub mod calls;
 pub mod check;

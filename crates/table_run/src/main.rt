@@ -2,12 +2,12 @@
 // before each: the word that fills the room, how many words are lent to start, its devices and cells, how many words are lent to push, the
 // device that pushes, and the pokes, an index and a value each. The answer has the name, whether the contents are a table, what push
 // answers, and each word that it changed, with the new value.
+use devices::calls::push;
 use showing::is_done;
 use showing::show_answer;
 use showing::show_changes;
 use showing::write;
 use table::begin::start;
-use table::calls::push;
 use table::check::is_table;
 use words::layout::RECORD;
 use words::layout::RECORDS;

@@ -1,13 +1,13 @@
--- `table::calls::on_known` meets its contract: a step on the record is the step on the table.
+-- `devices::calls::on_known` meets its contract: a step on the record is the step on the table.
 -- Assumes nothing.
 use mathlib.Core.Path.{_∙_}
 use native.Mathlib.Omega.{arith}
 use Rattle.table.proofs.Part.{part-is, part-length, replaced}
 use Rattle.table.proofs.Tables.{record-of}
-use Rattle.table.proofs.Lifted.{lifted-named}
+use Rattle.devices.proofs.Steps.{lifted-named}
 use borrow.Author.Needs.{needs}
-use Rattle.table.proofs.calls.on_known.Statement.{statement}
-use Rattle.table.proofs.calls.on_known.Tie as tie
+use Rattle.devices.proofs.calls.on_known.Statement.{statement}
+use Rattle.devices.proofs.calls.on_known.Tie as tie
 
 slice-read-devices : tie.Need-slice-read-devices
 slice-read-devices c = search needs

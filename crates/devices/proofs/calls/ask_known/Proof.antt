@@ -1,11 +1,11 @@
--- `table::calls::ask_known` meets its contract: what the record tells is what the table tells.
+-- `devices::calls::ask_known` meets its contract: what the record tells is what the table tells.
 -- Assumes nothing.
 use Rattle.table.proofs.Part.{part-is}
 use Rattle.table.proofs.Tables.{record-of}
-use Rattle.table.proofs.Lifted.{told-asked}
+use Rattle.devices.proofs.Steps.{told-asked}
 use borrow.Author.Needs.{needs}
-use Rattle.table.proofs.calls.ask_known.Statement.{statement}
-use Rattle.table.proofs.calls.ask_known.Tie as tie
+use Rattle.devices.proofs.calls.ask_known.Statement.{statement}
+use Rattle.devices.proofs.calls.ask_known.Tie as tie
 
 shared-slice-read-devices : tie.Need-shared-slice-read-devices
 shared-slice-read-devices c = search needs
