@@ -25,6 +25,7 @@ use Rattle.words.specs.Layout.{DEVICES, CELLS}
 use Rattle.table.specs.Table.{reading, InTable, IsTable}
 use Rattle.table.specs.Promise.{Became, Stepped}
 use Rattle.table.proofs.Lifted.{no-table, no-device, unmoved}
+use Rattle.devices.proofs.Steps.{cells-is as header-cells}
 use Rattle.block.specs.Block.{updateIn, updatesIn, refusalOf, walkAt, lookedAt, WalkBegins}
 use Rattle.block.specs.declared.Entry.{Entry}
 use Rattle.block.specs.declared.Walk.{Walk}
@@ -47,9 +48,6 @@ module _ (t₀ : List ℕ) (d : ℕ) (us : List Entry) where
 
   devices-is : (t : List ℕ) → reading t .devices ≡ getD t DEVICES 0
   devices-is t = unfold reading in refl
-
-  cells-are : (t : List ℕ) → reading t .cells ≡ getD t CELLS 0
-  cells-are t = unfold reading in refl
 
   split : (i : ℕ) → i < n → drop i us ≡ entryAt i ∷ drop (i + 1) us
   split i l = drop-cons us i pastEnd l ∙ ap (λ (k : ℕ). entryAt i ∷ drop k us) (sym (add-one i))
@@ -140,7 +138,7 @@ module _ (t₀ : List ℕ) (d : ℕ) (us : List Entry) where
       in-use : (k : ℕ) → InTable t k → InTable zs k
       in-use = in-table t zs (B .valid) (Z .valid)
           (sym (devices-is zs) ∙ ap (λ (s : Table sheet). s .devices) (Z .says) ∙ sym (ap (λ (s : Table sheet). s .devices) (B .says)) ∙ devices-is t)
-          (sym (cells-are zs) ∙ ap (λ (s : Table sheet). s .cells) (Z .says) ∙ sym (ap (λ (s : Table sheet). s .cells) (B .says)) ∙ cells-are t)
+          (sym (header-cells zs) ∙ ap (λ (s : Table sheet). s .cells) (Z .says) ∙ sym (ap (λ (s : Table sheet). s .cells) (B .says)) ∙ header-cells t)
           (λ e k. rw (B .says, Z .says) (alike-placed (reading t₀) d b b′ e))
 
       became : Became t₀ zs (opening t₀ d b′)

@@ -21,7 +21,8 @@ use Rattle.table.specs.Promise.{Stepped}
 use Rattle.table.proofs.Part.{Replaced}
 use Rattle.table.proofs.Lifted.{no-device, told, lifted}
 
-cells-is : (xs : List ℕ) → reading xs .cells ≡ getD xs CELLS 0
+-- The cells of a table are those that its header says.
+pub cells-is : (xs : List ℕ) → reading xs .cells ≡ getD xs CELLS 0
 cells-is xs = unfold reading in refl
 
 -- The machine's step that an operation names is the device's.

@@ -1,8 +1,11 @@
 // What the runs print: an answer, and the words that a call changed. Only the programs that compare runs use it.
+ghost use mathlib.Core.Path.{_≡_};
+ghost use Rattle.showing.specs.Done.{isDone};
 use answers::answer::put_answer;
 use libc::STDOUT_FILENO;
 use sheet::Answer;
 
+// Writes to standard output.
 pub fn write(text: &[u8]) {
     io::write_all(STDOUT_FILENO, text);
 }
@@ -24,11 +27,20 @@ pub fn show_answer(a: Answer) {
     show_place(a);
 }
 
-pub fn is_done(a: Answer) -> bool {
-    let Answer::Done = a else {
-        return false;
-    };
-    true
+// Whether a call was done.
+pub fn is_done(a: Answer) -> bool
+    ensures { λ r. ⌜ r ≡ isDone a ⌝ }
+{
+    match a {
+        Answer::Done => true,
+        Answer::Value(_) => false,
+        Answer::Yes => false,
+        Answer::No => false,
+        Answer::Moved(_) => false,
+        Answer::Length(_) => false,
+        Answer::Refused(_) => false,
+        Answer::RefusedAt(_, _) => false,
+    }
 }
 
 fn show_word(i: usize, v: u64) {
