@@ -1,5 +1,8 @@
 // The pasted block: a lent slice of updates, joined to a device's open transaction in one call, all or none. `block` walks the slice, and is
 // proved by hand; each turn of it is `turn`, on plain values.
+
+#![tactic(auto)]
+
 ghost use Rattle.std.specs.Prelude.{◌≡◌, ◌<◌, ◌≤◌, get_or, take};
 ghost use Rattle.protocol.specs.Machine.{step};
 ghost use Rattle.protocol.specs.Machine as machine;
@@ -19,14 +22,14 @@ use table::check::is_table;
 use words::layout::{CELLS, DEVICES};
 
 // One line of a pasted block.
-#[derive(Drop)]
+#[derive(Clone, Copy)]
 pub struct Entry {
     pub cell: u64,
     pub update: Update,
 }
 
 // Where the walk over a block stands: whether it goes on, at which line, whether the lines are joined by now or only looked at, and the answer so far.
-#[derive(Drop)]
+#[derive(Clone, Copy)]
 struct Walk {
     on: bool,
     at: usize,

@@ -1,5 +1,8 @@
 // Pastes blocks that are good, empty and bad, in turn, to one table of two devices and four cells. A line for each: what it is, what the call
 // answers, and each word that it changed, with the new value. Last come the cells that device 0 reads.
+
+#![tactic(auto)]
+
 ghost use Rattle.std.specs.Prelude.{◌≤◌};
 
 use block::{Entry, block_of};

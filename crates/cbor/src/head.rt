@@ -56,7 +56,7 @@ pub fn write_head(out: &mut [u8], at: usize, major: u8, argument: u64) -> usize
 }
 
 // An argument with the place after it.
-#[derive(Drop)]
+#[derive(Clone, Copy)]
 pub enum Argument {
     Of(u64, usize),
     Bad,

@@ -1,6 +1,9 @@
 // Runs examples of encoded bytes: RFC 8949's published ones (appendix A), longer heads than needed, whole images. A line of input has the bytes in
 // hex and a name. Its answer has the tokens that are read up to the end or to the first that is refused, the cell that stands at the front, and the
 // image that the bytes are, opened and written again.
+
+#![tactic(auto)]
+
 ghost use Rattle.std.specs.Prelude.{◌≤◌, ◌<◌, length};
 
 use cbor::token::{Read, Token};

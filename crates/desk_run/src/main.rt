@@ -1,4 +1,7 @@
 // Runs the calls on the ends of their ranges and prints what they answer, a line each: what was done, then the kind and the payload.
+
+#![tactic(auto)]
+
 use crate::runs::runs;
 use cells::joining::{add_to, apply, join};
 use cells::measured::{bits_of_f64, finite_bits, is_finite};

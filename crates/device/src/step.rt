@@ -15,7 +15,7 @@ use cells::Update;
 use sheet::Answer;
 
 // A step of one device; an update names its cell.
-#[derive(Drop)]
+#[derive(Clone, Copy)]
 pub enum Operation {
     Update(u64, Update),
     Push,

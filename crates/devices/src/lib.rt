@@ -1,2 +1,5 @@
 // The device's steps as public calls.
+
+#![tactic(auto)]
+
 pub mod calls;

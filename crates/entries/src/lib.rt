@@ -1,2 +1,5 @@
 // Whether words are the items and rounds of a device's record.
+
+#![tactic(auto)]
+
 pub mod entries;

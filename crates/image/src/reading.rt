@@ -14,7 +14,7 @@ use words::layout::{MOST_CELLS, MOST_DEVICES, MOST_PUSHES};
 use words::place::put_cell;
 
 // The place after the values that were read.
-#[derive(Drop)]
+#[derive(Clone, Copy)]
 pub enum Passed {
     UpTo(usize),
     Broken,
@@ -61,7 +61,7 @@ fn read_numbers(s: &[u8], from: usize, n: usize, numbers: &mut [u64]) -> Passed
 }
 
 // How many elements an array has, and the place after it.
-#[derive(Drop)]
+#[derive(Clone, Copy)]
 pub enum ArrayRead {
     Elements(usize, usize),
     NoArray,
@@ -102,7 +102,7 @@ fn read_devices(s: &[u8], at: usize, numbers: &mut [u64]) -> ArrayRead
 }
 
 // How many cells and devices an image has.
-#[derive(Drop)]
+#[derive(Clone, Copy)]
 pub enum Decoded {
     Sheet(usize, usize),
     NoImage,

@@ -18,7 +18,7 @@ use words::layout::{CELLS, DEVICES, RECORD, RECORDS, SHEET, TAKEN};
 use words::place::get_cell;
 
 // Where the cells and the numbers lie: how many cells, and their first word; how many devices, device 0's number, and the words from one number to the next.
-#[derive(Drop)]
+#[derive(Clone, Copy)]
 pub struct Places {
     pub cells: usize,
     pub sheet: usize,

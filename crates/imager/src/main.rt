@@ -1,5 +1,8 @@
 // The image tool: `imager read` prints the image that stands on standard input as text, `imager write` makes the image of such a text.
 // Another word, or none, gets a line that says so.
+
+#![tactic(auto)]
+
 use answers::answer::put_answer_line;
 use image::writing::LONGEST;
 use imaging::compose::compose;

@@ -20,7 +20,7 @@ use words::layout::{CELL, MOST_CELLS, MOST_DEVICES};
 use words::place::put_cell;
 
 // So many lines, and the place behind them.
-#[derive(Drop)]
+#[derive(Clone, Copy)]
 pub struct Run {
     pub count: usize,
     pub next: usize,

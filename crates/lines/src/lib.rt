@@ -1,16 +1,19 @@
 // Records: lines that CR LF ends, fed a byte at a time. A CR or an LF alone is a byte of the line.
+
+#![tactic(auto)]
+
 ghost use Rattle.std.specs.Prelude.{◌≡◌, ◌≤◌, length};
 ghost use Rattle.lines.specs.Lines.{ends_line};
 ghost use Rattle.lines.specs.Held.{nothing, ended_of, fed_of, buffer_after, finish_of};
 
 // The line that is not ended yet: how many bytes it has, at most 82, and the last of them, 0 where there is none.
-#[derive(Drop)]
+#[derive(Clone, Copy)]
 pub struct Unended {
     pub len: usize,
     pub last: u8,
 }
 
-#[derive(Drop)]
+#[derive(Clone, Copy)]
 pub enum Fed {
     // The line goes on.
     More(Unended),

@@ -12,7 +12,7 @@ use wording::values::{UpdateName, update_name_of};
 use words::layout::MOST_PUSHES;
 
 // A line: how many bytes its text has, and the place behind its CR LF.
-#[derive(Drop)]
+#[derive(Clone, Copy)]
 pub enum LineRead {
     Ends(usize, usize),
     NoLine,

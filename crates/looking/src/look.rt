@@ -8,7 +8,7 @@ use crate::read::read;
 use sheet::Answer;
 
 // A question to one device.
-#[derive(Drop)]
+#[derive(Clone, Copy)]
 pub enum Question {
     Read(u64),
     Confirmed,

@@ -2,6 +2,9 @@
 // payload and the length m of the list, then the m words of the list and the n words of the table, each in 8 bytes, the low one first.
 // The call is made on a slice of just n words. The output has for each record 3 words of the answer and the n words afterwards.
 // It ends at the end of the input, and at a record whose n or m is too large.
+
+#![tactic(auto)]
+
 ghost use Rattle.std.specs.Prelude.{◌*◌, ◌≤◌, length};
 
 use cells::Cell;

@@ -1,4 +1,7 @@
 // Any call on lent words, by its number and with numbers for its arguments: what a test sends from outside.
+
+#![tactic(auto)]
+
 ghost use Rattle.std.specs.Prelude.{◌≡◌, ◌≤◌, min, take};
 ghost use Rattle.protocol.specs.Machine.{step};
 ghost use Rattle.protocol.specs.Machine as machine;

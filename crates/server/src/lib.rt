@@ -1,4 +1,7 @@
 // The server and the links on the lent table.
+
+#![tactic(auto)]
+
 mod batch;
 pub mod calls;
 mod ends;

@@ -1,4 +1,7 @@
 // What the runs print: an answer, and the words that a call changed. Only the programs that compare runs use it.
+
+#![tactic(auto)]
+
 ghost use Rattle.std.specs.Prelude.{◌≡◌};
 ghost use Rattle.showing.specs.Done.{is_done};
 

@@ -1,11 +1,14 @@
 // The step program: reads steps from standard input and writes an answer to each to standard output.
+
+#![tactic(auto)]
+
 use answering::line::WORDS;
 use libc::{STDIN_FILENO, STDOUT_FILENO};
 use lines::{Unended, none};
 use stepping::feed::{ANSWERS, CHUNK, feed_chunk, finish_input};
 
 // Whether the input goes on, and what is held of the line that is not ended.
-#[derive(Drop)]
+#[derive(Clone, Copy)]
 struct Turn {
     more: bool,
     unended: Unended,

@@ -14,7 +14,7 @@ pub const CHUNK: usize = 4096;
 pub const ANSWERS: usize = 34 * CHUNK;
 
 // What is held of the unended line, and how many bytes stand in the output buffer.
-#[derive(Drop)]
+#[derive(Clone, Copy)]
 pub struct Run {
     pub unended: Unended,
     pub at: usize,

@@ -9,7 +9,7 @@ use wording::names::{Act, Kind, kind_of};
 use wording::values::{MaybeUpdate, number_at, update_at};
 
 // The counts of a batch or a cut: how many there are, at most 3, and what they are, 0 for those that are not there.
-#[derive(Drop)]
+#[derive(Clone, Copy)]
 pub struct Counts {
     pub number: u64,
     pub first: u64,
@@ -17,7 +17,7 @@ pub struct Counts {
     pub third: u64,
 }
 
-#[derive(Drop)]
+#[derive(Clone, Copy)]
 pub enum Step {
     // Devices, cells.
     Start(u64, u64),
@@ -42,13 +42,13 @@ pub enum Step {
     NoStep,
 }
 
-#[derive(Drop)]
+#[derive(Clone, Copy)]
 enum MaybeCounts {
     Is(Counts),
     Not,
 }
 
-#[derive(Drop)]
+#[derive(Clone, Copy)]
 enum MaybePair {
     Is(u64, u64),
     Not,

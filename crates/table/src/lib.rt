@@ -1,3 +1,6 @@
 // The lent table: a header with the server's sheet, then a record for each device. Whether contents are one, and its beginning.
+
+#![tactic(auto)]
+
 pub mod begin;
 pub mod check;

@@ -2,6 +2,9 @@
 // before each: the word that fills the room, how many words are lent to start, its devices and cells, how many words are lent to push, the
 // device that pushes, and the pokes, an index and a value each. The answer has the name, whether the contents are a table, what push
 // answers, and each word that it changed, with the new value.
+
+#![tactic(auto)]
+
 use devices::calls::push;
 use showing::{is_done, show_answer, show_changes, write};
 use table::begin::start;
@@ -13,7 +16,7 @@ const ROOM: usize = RECORDS + RECORD * 9 + 60;
 
 // What is read of a line: the place of the number that is being read (0 in the name, 1 at the first space, 8 and 9 for a poke), the number so far,
 // and the numbers that are kept.
-#[derive(Drop)]
+#[derive(Clone, Copy)]
 struct Line {
     place: u64,
     number: u64,

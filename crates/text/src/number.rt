@@ -3,14 +3,14 @@ ghost use Rattle.std.specs.Prelude.{◌≡◌, ◌<◌};
 ghost use Rattle.text.specs.Number.{digit_of, with_digit, next_digit, digits_from, leading_zero, decimal_of, positive_of, negative_of, starts_minus, signed_of, bits_of};
 
 // A number, or the answer that the bytes are none.
-#[derive(Drop)]
+#[derive(Clone, Copy)]
 pub enum Whole {
     Is(u64),
     Not,
 }
 
 // A signed number, or the answer that the bytes are none.
-#[derive(Drop)]
+#[derive(Clone, Copy)]
 pub enum Signed {
     Is(i64),
     Not,

@@ -5,7 +5,7 @@ ghost use Rattle.wording.specs.Names.{kind_of, kind_of_act};
 use text::field::same;
 
 // The steps that name a device alone.
-#[derive(Drop)]
+#[derive(Clone, Copy)]
 pub enum Act {
     Push,
     Send,
@@ -19,7 +19,7 @@ pub enum Act {
 }
 
 // What the first field names.
-#[derive(Drop)]
+#[derive(Clone, Copy)]
 pub enum Kind {
     Start,
     Update,

@@ -9,14 +9,14 @@ use text::field::{field, same};
 use text::number::{Signed, Whole, bits, decimal, signed_decimal};
 
 // An update, or the answer that the fields are none.
-#[derive(Drop)]
+#[derive(Clone, Copy)]
 pub enum MaybeUpdate {
     Is(Update),
     Not,
 }
 
 // The name by which an update says what it does.
-#[derive(Drop)]
+#[derive(Clone, Copy)]
 pub enum UpdateName {
     Blank,
     Count,

@@ -1,4 +1,7 @@
 // The words of the lent table: where each thing lies, the accessors of a place, and loops over runs of places.
+
+#![tactic(auto)]
+
 pub mod across;
 pub mod check;
 pub mod layout;

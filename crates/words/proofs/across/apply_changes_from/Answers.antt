@@ -1,0 +1,50 @@
+-- `words::across::apply_changes_from` meets its contract: the place of a turn is as it was at the start.
+use borrow.Author.Rules.{rules}
+use mathlib.Core.Path.{◌≡◌, refl, ◌∙◌, ap₂}
+use Prim.Native.Nat.{◌≤◌, ◌-◌, ◌+◌, ◌*◌}
+use lib.ListN.{length}
+use Rattle.words.specs.Layout.{CELL, CHANGE}
+use Rattle.words.specs.Place.{cell_at, change_at, cell_place, Filled}
+use Rattle.words.proofs.Places.{cell_local, filled_none, filled_more}
+use Rattle.words.proofs.Runs.{target_value, target_valid, stores_applied}
+use Rattle.cells.specs.Cells.{applied}
+use native.Mathlib.Omega.{arith}
+use Rattle.words.proofs.across.apply_changes_from.Goals as goal
+
+pub loop-i-init : goal.loop-i-init
+loop-i-init c = (omega arith, refl, filled_none cell_place cell_local _ _ _)
+
+pub get_cell-c-requires : goal.get_cell-c-requires
+get_cell-c-requires c =
+    let l = c.loop-i in record { k_in_bounds = omega arith; k_value = target_valid cell_place cell_local _ _ _ l.i _ l.invariant.2 _ c.loop-i-test.true c.requires.1 }
+
+pub get_change-d-requires : goal.get_change-d-requires
+get_change-d-requires c = record { k_in_bounds = omega arith; k_value = c.requires.0.from_valid c.loop-i.i c.loop-i-test.true }
+
+pub put_cell-requires : goal.put_cell-requires
+put_cell-requires c =
+    let l = c.loop-i in record { k_in_bounds = omega arith; c_value = stores_applied _ _ _ _ c.get_change-d.ensures (c.requires.0.from_valid l.i c.loop-i-test.true) c.get_cell-c.ensures c.apply.ensures (target_valid cell_place cell_local _ _ _ l.i _ l.invariant.2 _ c.loop-i-test.true c.requires.1) }
+
+pub overflow_add-i : goal.overflow_add-i
+overflow_add-i c = omega arith
+
+pub loop-i-smaller : goal.loop-i-smaller
+loop-i-smaller c = omega arith
+
+pub loop-i-preserved : goal.loop-i-preserved
+loop-i-preserved c =
+    let l = c.loop-i in
+    let w = c.put_cell in (
+      omega arith,
+      w.auto.t ∙ l.invariant.1,
+      filled_more cell_place cell_local _ _ _ _ _ l.i _ l.invariant.2 w.ensures (c.apply.ensures ∙ ap₂ applied (c.get_cell-c.ensures ∙ target_value cell_place cell_local _ _ _ l.i _ l.invariant.2) c.get_change-d.ensures),
+    )
+
+pub shape_of-t : goal.shape_of-t
+shape_of-t c = c.loop-i.invariant.1
+
+pub returns : goal.returns
+returns c =
+    let l = c.loop-i in
+    let e : l.i ≡ c.args.n = omega arith in
+    rw e at l.invariant.2

@@ -1,0 +1,16 @@
+-- `words::across::copy_changes_from` meets its contract: each turn stores one place more.
+use mathlib.Core.Path.{◌≡◌, refl, ◌∙◌, ap}
+use Prim.Native.Nat.{◌≤◌, ◌-◌, ◌+◌, ◌*◌}
+use lib.ListN.{length}
+use Rattle.words.specs.Layout.{CHANGE}
+use Rattle.words.specs.Place.{change_at, change_place, Filled}
+use Rattle.words.proofs.Places.{change_local, change_is_finite, filled_none, filled_more}
+use Rattle.cells.specs.Stored.{change_finite}
+use native.Mathlib.Omega.{arith}
+use Rattle.words.proofs.across.copy_changes_from.Given as goal
+
+abbrev pub invariant-loop-i : goal.invariant-loop-i
+invariant-loop-i l = (l.i ≤ l.n) × (length l.t ≡ length l.initial.t) × Filled change_place l.initial.t l.t l.to l.i (λ k. change_at l.s (l.from + CHANGE * k))
+
+abbrev pub decreases-loop-i : goal.decreases-loop-i
+decreases-loop-i l = l.n - l.i

@@ -1,0 +1,14 @@
+-- `words::across::copy_numbers_from` meets its contract: each turn stores one number more.
+use mathlib.Core.Path.{◌≡◌, refl, ◌∙◌}
+use Prim.Native.Nat.{◌≤◌, ◌-◌, ◌+◌}
+use lib.ListN.{length, get_or, length-set}
+use Rattle.words.specs.Place.{Numbers}
+use Rattle.words.proofs.Places.{numbers_none, numbers_more}
+use native.Mathlib.Omega.{arith}
+use Rattle.words.proofs.across.copy_numbers_from.Given as goal
+
+abbrev pub invariant-loop-i : goal.invariant-loop-i
+invariant-loop-i l = (l.i ≤ l.n) × (length l.t ≡ length l.initial.t) × Numbers l.initial.t l.t l.to l.i (λ k. get_or l.s (l.from + k) 0)
+
+abbrev pub decreases-loop-i : goal.decreases-loop-i
+decreases-loop-i l = l.n - l.i

@@ -1,0 +1,18 @@
+-- `words::run::join_changes` meets its contract: both changes of a turn are as they were at the start.
+use borrow.Author.Rules.{rules}
+use mathlib.Core.Path.{◌≡◌, refl, ◌∙◌, ap₂}
+use Prim.Native.Nat.{◌≤◌, ◌-◌, ◌+◌, ◌*◌}
+use native.Mathlib.Omega.{arith}
+use lib.ListN.{length}
+use Rattle.words.specs.Layout.{CHANGE}
+use Rattle.words.specs.Place.{change_at, change_place, Filled}
+use Rattle.words.proofs.Places.{change_local, filled_none, filled_more}
+use Rattle.words.proofs.Runs.{target_value, target_valid, source_value, source_valid, stores_joined}
+use Rattle.cells.specs.Cells.{joined}
+use Rattle.words.proofs.run.join_changes.Given as goal
+
+abbrev pub invariant-loop-i : goal.invariant-loop-i
+invariant-loop-i l = (l.i ≤ l.n) × (length l.t ≡ length l.initial.t) × Filled change_place l.initial.t l.t l.to l.i (λ k. joined (change_at l.initial.t (l.to + CHANGE * k)) (change_at l.initial.t (l.from + CHANGE * k)))
+
+abbrev pub decreases-loop-i : goal.decreases-loop-i
+decreases-loop-i l = l.n - l.i
