@@ -7,7 +7,7 @@ use Prim.Native.Nat.{ℕ, zero, suc, ◌+◌, ◌*◌, ◌-◌, ◌≤◌, ◌<�
 use native.Mathlib.Omega.{arith}
 use lib.ListN.{length, get_or}
 use Rattle.protocol.specs.Machine.{given, gives, asked}
-use Rattle.protocol.specs.Fits.{FitsDevice, numbers, is_prefix}
+use Rattle.protocol.specs.Fits.{FitsDevice, is_prefix}
 use Rattle.sheet.specs.Sheet.{sheet}
 use Rattle.words.specs.Layout.{ROUND, ITEM, PREFIX, ASKED, TAKEN, CHANNEL, PENDING_LENGTH, WAITING_LENGTH, ITEMS_LENGTH, RECEIVED, PENDING, WAITING, ITEMS, RECORD}
 use Rattle.words.proofs.Tests.{true_false}

@@ -33,7 +33,7 @@ above_counted cells xs number s C =
     let l = C.few in
     let e : get_or xs PENDING_LENGTH 0 ≡ s + (get_or xs PENDING_LENGTH 0 - s) = omega arith in
     ap (λ (a : ℕ). above sheet number (queue a (λ j. round_at cells xs (PENDING + ROUND * j)))) e
-    ∙ above_queue number s (get_or xs PENDING_LENGTH 0 - s) (λ j. round_at cells xs (PENDING + ROUND * j)) C.up_to_lem (λ h. C.next (omega arith))
+    ∙ above_queue number s (get_or xs PENDING_LENGTH 0 - s) (λ j. round_at cells xs (PENDING + ROUND * j)) C.up_to (λ h. C.next (omega arith))
     ∙ queue_same _ _ _ (λ j h. let z : PENDING + ROUND * (s + j) ≡ PENDING + ROUND * s + ROUND * j = omega arith in ap (round_at cells xs) z)
 
 -- Where nothing is removed, all stays.
