@@ -108,10 +108,10 @@ module _ (devices cells : ℕ) (xs : List ℕ) (channel request : ℕ) (R : IsRe
   pub renew_held : (get_or xs CONNECTION 0 ≡ 0 → ⊥) → Did devices cells (renew_at (channel_of channel) (request_of request)) xs Done (set (set (set (set xs CHANNEL channel) REQUEST request) ITEMS_LENGTH 0) CONNECTION STALE)
   renew_held n = unfold y3 y2 y1 in did
     where
-      held_is : (k : ℕ) → (k ≡ 0 → ⊥) → is_held (connection_of k) ≡ true
-      held_is zero n = absurd (n refl)
-      held_is (suc zero) n = refl
-      held_is (suc (suc k)) n = refl
+      stays_held : (k : ℕ) → (k ≡ 0 → ⊥) → is_held (connection_of k) ≡ true
+      stays_held zero n = absurd (n refl)
+      stays_held (suc zero) n = refl
+      stays_held (suc (suc k)) n = refl
 
       same : (i : ℕ) → CONNECTION < i → (i ≡ ITEMS_LENGTH → ⊥) → get_or (set y3 CONNECTION STALE) i 0 ≡ get_or xs i 0
       same i l n = set_kept y3 CONNECTION STALE i (λ e. omega arith) ∙ before_last i (omega arith) n
@@ -119,7 +119,7 @@ module _ (devices cells : ℕ) (xs : List ℕ) (channel request : ℕ) (R : IsRe
       did : Did devices cells (renew_at (channel_of channel) (request_of request)) xs Done (set y3 CONNECTION STALE)
       did =
           let w = set_new y3 CONNECTION STALE (omega (arith, size_is)) in
-          let h = held_is true (held_is (get_or xs CONNECTION 0) n) in
+          let h = held_is true (stays_held (get_or xs CONNECTION 0) n) in
           done (set y3 CONNECTION STALE) (λ i a b. set_kept y3 CONNECTION STALE i a) (simp length-set size_is) (omega (arith, w)) (ap connection_of w ∙ sym h.0)
           (rw h.1 (waiting_stays devices cells xs (set y3 CONNECTION STALE) R (same WAITING_LENGTH (omega arith) (λ e. omega arith)) (λ i p q. same i (omega arith) (λ e. omega arith))))
 

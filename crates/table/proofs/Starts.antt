@@ -16,7 +16,7 @@ use Rattle.protocol.specs.declared.Refusal.TheVariants.{NoTable, OutsideAllowed}
 use Rattle.words.specs.Layout.{RECORD, DEVICES, CELLS, SHEET, RECORDS}
 use Rattle.words.specs.Place.{cell_place, Filled}
 use Rattle.words.proofs.Places.{set_kept, set_new, lt_or_ge, cell_local}
-use Rattle.record.specs.Reading.{below, device_of}
+use Rattle.record.specs.Reading.{device_of}
 use Rattle.record.specs.Valid.{InUse}
 use Rattle.record.specs.Begun.{Begun}
 use Rattle.record.proofs.Same.{below_all, places_filled}
