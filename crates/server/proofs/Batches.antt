@@ -13,7 +13,7 @@ use Rattle.cells.specs.Cells.{applied}
 use Rattle.cells.specs.declared.Cell.{Cell}
 use Rattle.cells.specs.declared.Cell.TheVariants.{Blank}
 use Rattle.cells.specs.declared.Change.TheVariants.{Nothing}
-use Rattle.protocol.specs.Machine.{Table, Device, Item, segment, given, fresh_device, last_number, rounds_at, all_rounds, apply_rounds, join_rounds, moved_by, the_segment, batched, after_crash}
+use Rattle.protocol.specs.Machine.{Table, Device, Item, given, fresh_device, last_number, rounds_at, all_rounds, apply_rounds, join_rounds, moved_by, the_segment, batched, after_crash}
 use Rattle.protocol.proofs.Basics.{apply_join_rounds}
 use Rattle.sheet.specs.Sheet.{sheet}
 use Rattle.words.specs.Layout.{CELL, CHANGE, ITEM_KIND, ITEM_NUMBERS, ITEM_PLACES, TAKEN, SHEET, DEVICES, CELLS, RECORD, RECORDS}

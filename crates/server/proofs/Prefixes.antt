@@ -6,7 +6,6 @@ use native.Mathlib.Omega.{arith}
 use lib.ListN.{length, get_or, set, length-set}
 use Rattle.cells.specs.declared.Cell.TheVariants.{Blank}
 use Rattle.protocol.specs.Machine.{Item}
-use Rattle.sheet.specs.Sheet.{sheet}
 use Rattle.words.specs.Layout.{MOST_PUSHES, CELL, ITEM, ITEM_KIND, ITEM_NUMBERS, ITEM_PLACES, PREFIX, TAKEN, SHEET, RECORD, RECORDS, DEVICES, CELLS}
 use Rattle.words.specs.Place.{cell_place, cell_at, Across, Filled, Numbers, Valid}
 use Rattle.words.proofs.Places.{Same, set_kept, set_new, cell_local}

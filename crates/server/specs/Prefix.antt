@@ -1,7 +1,6 @@
 -- "the present prefix (sheet and all numbers)". Assumes nothing.
 use Rattle.std.specs.Prelude.{◌≡◌, List, ℕ, length}
 use Rattle.protocol.specs.Machine.{prefix}
-use Rattle.sheet.specs.Sheet.{sheet}
 use Rattle.words.specs.Layout.{ITEM, ITEM_KIND}
 use Rattle.record.specs.Reading.{item_at}
 use Rattle.record.specs.Valid.{ValidItem}
