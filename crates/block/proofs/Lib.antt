@@ -3,7 +3,5 @@ pub mod Shape
 pub mod Joins
 pub mod Stages
 pub mod Stepping
-pub mod Again
-pub mod Front
-pub mod Held
+pub mod Standing
 pub mod Theorems

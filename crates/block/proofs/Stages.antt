@@ -7,7 +7,7 @@ use lib.ListN.{length, get_or, drop}
 use Rattle.cells.specs.declared.Cell.TheVariants.{Blank}
 use Rattle.cells.specs.declared.Change.{Change}
 use Rattle.cells.specs.declared.Update.{Update}
-use Rattle.protocol.specs.Machine.{Table, step, at}
+use Rattle.protocol.specs.Machine.{Table, choose, step, at}
 use Rattle.protocol.specs.Machine as machine
 use Rattle.protocol.specs.Claims.{join_updates}
 use Rattle.sheet.specs.Sheet.{sheet}
@@ -36,6 +36,10 @@ pub data Stage (t₀ : List ℕ) (d : ℕ) (us : List Entry) : Type 0 where
   joins : (t : List ℕ) (b : ℕ → Change) (i : ℕ) → i < length us → IsTable t₀ → d < get_or t₀ DEVICES 0 → Became t₀ t (opening t₀ d b) → first_bad (reading t₀).cells 0 us ≡ Done → first_bad (reading t₀).cells i (drop i us) ≡ Done → join_updates sheet b (updates_in (drop i us)) ≡ join_updates sheet ((reading t₀).device d).transaction (updates_in us) → Stage t₀ d us
   over : (a : Answer) (i : ℕ) (j : Bool) (t : List ℕ) → length t ≡ length t₀ → Stepped (step sheet (machine.block d (updates_in us))) t₀ a t → Stage t₀ d us
 
+-- How many turns a walk over n updates has before it at the most.
+abbrev pub left : ℕ → Walk → ℕ
+left n w = choose w.on (choose w.joining (n - w.at) ((n - w.at) + (n + 1))) 0
+
 module _ {t₀ : List ℕ} {d : ℕ} {us : List Entry} where
   abbrev pub table_at : Stage t₀ d us → List ℕ
   table_at (looks i l T h q) = t₀
@@ -51,6 +55,12 @@ module _ {t₀ : List ℕ} {d : ℕ} {us : List Entry} where
   μ (looks i l T h q) = (length us - i) + (length us + 1)
   μ (joins t b i l T h B g r q) = length us - i
   μ (over a i j t e S) = 0
+
+  -- the measure, by the walk alone
+  pub μ_left : (s : Stage t₀ d us) → left (length us) (at_walk s) ≡ μ s
+  μ_left (looks i l T h q) = refl
+  μ_left (joins t b i l T h B g r q) = refl
+  μ_left (over a i j t e S) = refl
 
   pub same_length : (s : Stage t₀ d us) → length (table_at s) ≡ length t₀
   same_length (looks i l T h q) = refl
@@ -70,3 +80,9 @@ pub record Goes (t₀ : List ℕ) (d : ℕ) (us : List Entry) (s : Stage t₀ d 
   pub there : d < get_or (table_at s) DEVICES 0
   pub within : (at_walk s).at < length us
   pub after : (r : Walk) (zs : List ℕ) → WalkTurned (table_at s) d (length us) (get_or us (at_walk s).at past_end) (at_walk s) r zs → Next t₀ d us s zs r
+
+-- The words t and the walk w are those of a stage: what the loop keeps.
+pub record Stands (t₀ : List ℕ) (d : ℕ) (us : List Entry) (t : List ℕ) (w : Walk) : Type 0 where
+  pub stage : Stage t₀ d us
+  pub table_is : t ≡ table_at stage
+  pub walk_is : w ≡ at_walk stage

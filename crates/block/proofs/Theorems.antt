@@ -14,7 +14,6 @@ use Rattle.protocol.specs.History.{Every}
 use Rattle.protocol.specs.Claims.{join_updates}
 use Rattle.protocol.specs.Refusals.{FirstBad as FirstBadOn}
 use Rattle.sheet.specs.Sheet.{sheet}
-use Rattle.sheet.specs.declared.Answer.{Answer}
 use Rattle.sheet.specs.declared.Answer.TheVariants.{Done, RefusedAt}
 use Rattle.sheet.proofs.OneAnswer.{meaning_one, done_refused}
 use Rattle.sheet.proofs.Theorem.{refused_exactly_when, refusal_changes_nothing}
