@@ -17,7 +17,6 @@ use Rattle.protocol.specs.Machine as machine
 use Rattle.protocol.specs.declared.Refusal.{Refusal}
 use Rattle.protocol.specs.declared.Refusal.TheVariants.{BufferShort, NoImage, NoTable}
 use Rattle.sheet.specs.Sheet.{sheet}
-use Rattle.sheet.specs.declared.Answer.{Answer}
 use Rattle.sheet.specs.declared.Answer.TheVariants.{Length}
 use Rattle.sheet.proofs.OneAnswer.{meaning_one, done_refused}
 use Rattle.sheet.proofs.Theorem.{reached_fits}
