@@ -11,7 +11,6 @@ use lib.Dec.{eqb, ltb}
 use Rattle.text.specs.Field.{record_of, commas_of, field_of}
 use Rattle.text.specs.Text.{decimal_text}
 use Rattle.text.proofs.Fields.{fields_from, line_fields}
-use Rattle.cells.specs.declared.Update.{Update}
 use Rattle.wording.specs.Names.{start_text, update_text, read_text, batch_text, cut_text, crash_text, act_text}
 use Rattle.wording.specs.Values.{number_at, update_field_at}
 use Rattle.wording.specs.Names.{kind_of}
