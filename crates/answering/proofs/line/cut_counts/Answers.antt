@@ -1,0 +1,14 @@
+-- `answering::line::cut_counts` meets its contract: as many counts are lent as there are.
+use native.Mathlib.Omega.{arith}
+use mathlib.Core.Path.{sym}
+use lib.Seq.{length-take-le}
+use Rattle.answering.proofs.Asking.{take_min}
+use Rattle.answering.proofs.line.cut_counts.Goals as goal
+
+pub slice_bounds-cut-end : goal.slice_bounds-cut-end
+slice_bounds-cut-end c = sym (length-take-le _ _ (omega (arith, c.number_of_counts-n.ensures)))
+
+pub returns : goal.returns
+returns c =
+    let n = c.number_of_counts-n.ensures in
+    rw (← take_min _ _ _ n) c.cut.ensures
