@@ -5,113 +5,112 @@
 #![tactic(auto)]
 
 ghost use Rattle.std.specs.Prelude.{◌≤◌, ◌<◌, length};
+ghost use Rattle.std.specs.Io.{ReadsAtMost};
 
 use cbor::token::{Read, Token};
 use cells::Cell;
 use coding::cell::CellRead;
 use image::opening::open_image;
 use image::writing::write_image;
-use libc::STDOUT_FILENO;
 use sheet::Answer;
+use std::io;
+use std::io::Read as _;
 use words::layout::{CELLS, DEVICES};
 
-fn word(name: &[u8], n: u64) {
-    io::write_all(STDOUT_FILENO, name);
-    io::print_hex(STDOUT_FILENO, n, 16);
+fn word(rt: &impl Print, name: &[u8], n: u64) -> io::Result<()> {
+    rt.write_all(name)?;
+    print!(rt; "{n:016x}")
 }
 
-fn number(name: &[u8], n: u64) {
-    io::write_all(STDOUT_FILENO, name);
-    io::print_decimal(STDOUT_FILENO, n);
+fn number(rt: &impl Print, name: &[u8], n: u64) -> io::Result<()> {
+    rt.write_all(name)?;
+    rt.print(n)
 }
 
-fn show_token(t: Token) {
+fn show_token(rt: &impl Print, t: Token) -> io::Result<()> {
     match t {
-        Token::Unsigned(a) => word(b" unsigned,", a),
-        Token::Negative(a) => word(b" negative,", a),
-        Token::Array(a) => word(b" array,", a),
-        Token::Null => {
-            io::write_all(STDOUT_FILENO, b" null");
-        }
-        Token::Float(b) => word(b" float,", b),
+        Token::Unsigned(a) => word(rt, b" unsigned,", a),
+        Token::Negative(a) => word(rt, b" negative,", a),
+        Token::Array(a) => word(rt, b" array,", a),
+        Token::Null => rt.write_all(b" null"),
+        Token::Float(b) => word(rt, b" float,", b),
     }
 }
 
 // The token at a place; answers the place after it, or the end.
-fn step(s: &[u8], at: usize) -> usize {
+fn step(rt: &impl Print, s: &[u8], at: usize) -> io::Result<usize> {
     match cbor::token::read_token(s, at) {
         Read::Found(t, next) => {
-            show_token(t);
-            next
+            show_token(rt, t)?;
+            Ok(next)
         }
         Read::Absent => {
-            io::write_all(STDOUT_FILENO, b" refused");
-            s.len()
+            rt.write_all(b" refused")?;
+            Ok(s.len())
         }
     }
 }
 
 // The tokens from the front on, 81 at the most.
-fn show_tokens(s: &[u8]) {
-    let mut at = step(s, 0);
+fn show_tokens(rt: &impl Print, s: &[u8]) -> io::Result<()> {
+    let mut at = step(rt, s, 0)?;
     let mut left: u64 = 80;
     while 0 < left {
         if at < s.len() {
-            at = step(s, at);
+            at = step(rt, s, at)?;
         }
         left -= 1;
     }
+    Ok(())
 }
 
-fn show_cell(s: &[u8]) {
+fn show_cell(rt: &impl Print, s: &[u8]) -> io::Result<()> {
     let CellRead::CellAt(c, _) = coding::cell::read_cell(s, 0) else {
-        io::write_all(STDOUT_FILENO, b" no cell");
-        return;
+        return rt.write_all(b" no cell");
     };
     match c {
-        Cell::Blank => {
-            io::write_all(STDOUT_FILENO, b" blank");
-        }
-        Cell::Count(n) => word(b" count,", cells::signed::bits_of_i64(n)),
+        Cell::Blank => rt.write_all(b" blank"),
+        Cell::Count(n) => word(rt, b" count,", cells::signed::bits_of_i64(n)),
         Cell::Measure(x) => {
             if cells::measured::is_finite(x) {
-                word(b" measure,", cells::measured::bits_of_f64(x));
+                word(rt, b" measure,", cells::measured::bits_of_f64(x))?;
             }
+            Ok(())
         }
     }
 }
 
 // The image opened into a table, and written again.
-fn show_image(s: &[u8]) {
+fn show_image(rt: &impl Print, s: &[u8]) -> io::Result<()> {
     let mut t = [0u64; 29650];
     let Answer::Done = open_image(&mut t, s) else {
-        io::write_all(STDOUT_FILENO, b" no image");
-        return;
+        return rt.write_all(b" no image");
     };
-    number(b" cells,", t[CELLS]);
-    number(b" devices,", t[DEVICES]);
+    number(rt, b" cells,", t[CELLS])?;
+    number(rt, b" devices,", t[DEVICES])?;
     let mut out = [0u8; 620];
     let Answer::Length(k) = write_image(&t, &mut out) else {
-        return;
+        return Ok(());
     };
-    number(b" length,", k);
+    number(rt, b" length,", k)?;
     if k <= 620 {
         let n = k as usize;
-        if check::same(&out[..n], s) {
-            io::write_all(STDOUT_FILENO, b" same");
+        if &out[..n] == s {
+            rt.write_all(b" same")?;
         }
     }
+    Ok(())
 }
 
-fn show(name: &[u8], s: &[u8]) {
-    io::write_all(STDOUT_FILENO, name);
-    io::write_all(STDOUT_FILENO, b":");
-    show_tokens(s);
-    io::write_all(STDOUT_FILENO, b" /");
-    show_cell(s);
-    io::write_all(STDOUT_FILENO, b" /");
-    show_image(s);
-    io::write_all(STDOUT_FILENO, b"\n");
+fn show(rt: &impl Print, name: &[u8], s: &[u8]) -> io::Result<()> {
+    rt.write_all(name)?;
+    rt.write_all(b":")?;
+    show_tokens(rt, s)?;
+    rt.write_all(b" /")?;
+    show_cell(rt, s)?;
+    rt.write_all(b" /")?;
+    show_image(rt, s)?;
+    rt.write_all(b"\n")
 }
 
 fn digit(b: u8) -> u8
@@ -155,33 +154,49 @@ fn find(s: &[u8], at: usize, b: u8) -> usize
 }
 
 // One line; answers the place of the next.
-fn line(s: &[u8], at: usize) -> usize
+fn line(rt: &impl Print, s: &[u8], at: usize) -> io::Result<usize>
     requires { at ≤ length s.now }
 {
     let space = find(s, at, b' ');
     let end = find(s, space, b'\n');
     if end <= space {
-        return s.len();
+        return Ok(s.len());
     }
     let mut item = [0u8; 128];
     let n = bytes_of(&s[at..space], &mut item);
-    show(&s[space + 1..end], &item[..n]);
-    end + 1
+    show(rt, &s[space + 1..end], &item[..n])?;
+    Ok(end + 1)
 }
 
-fn lines(s: &[u8]) {
+fn lines(rt: &impl Print, s: &[u8]) -> io::Result<()> {
     let mut at = 0;
     let mut left: u64 = 1000;
     while 0 < left {
         if at < s.len() {
-            at = line(s, at);
+            at = line(rt, s, at)?;
         }
         left -= 1;
     }
+    Ok(())
 }
 
-fn main() {
-    let mut input = io::large_buffer();
-    let n = io::read_full(0, &mut input);
-    lines(&input[..n]);
+// Reads until buf is full or the input ends, and returns how many bytes it put at the start of buf.
+fn read_full(input: &mut impl io::Read, buf: &mut [u8]) -> io::Result<usize>
+    ensures { ReadsAtMost result buf.new }
+{
+    let mut done = 0;
+    while done < buf.len() {
+        let n = input.read(&mut buf[done..])?;
+        if n == 0 {
+            break;
+        }
+        done += n;
+    }
+    Ok(done)
+}
+
+fn main(rt: HostRuntime) -> io::Result<()> {
+    let mut input = [0u8; 65536];
+    let n = read_full(&mut rt.reader(), &mut input)?;
+    lines(&rt, &input[..n])
 }

@@ -3,51 +3,70 @@
 
 #![tactic(auto)]
 
+ghost use Rattle.std.specs.Io.{ReadsAtMost};
+
 use answers::answer::put_answer_line;
 use image::writing::LONGEST;
 use imaging::compose::compose;
 use imaging::show::show;
-use libc::{STDIN_FILENO, STDOUT_FILENO};
 use sheet::Answer;
+use std::env::Env;
+use std::io;
+use std::io::Read;
 use text::field::same;
 
-// More bytes than the buffer holds are read up to there, and are no image: none has so many.
-fn read_image() {
-    let mut bytes = io::buffer();
-    let n = io::read_full(STDIN_FILENO, &mut bytes);
-    let mut out = [0u8; 4096];
-    let k = show(&bytes[..n], &mut out);
-    io::write_all(STDOUT_FILENO, &out[..k]);
+// Reads until buf is full or the input ends, and returns how many bytes it put at the start of buf.
+fn read_full(input: &mut impl Read, buf: &mut [u8]) -> io::Result<usize>
+    ensures { ReadsAtMost result buf.new }
+{
+    let mut done = 0;
+    while done < buf.len() {
+        let n = input.read(&mut buf[done..])?;
+        if n == 0 {
+            break;
+        }
+        done += n;
+    }
+    Ok(done)
 }
 
-fn answer(a: Answer) {
+// More bytes than the buffer holds are read up to there, and are no image: none has so many.
+fn read_image(rt: &(impl Input + Print)) -> io::Result<()> {
+    let mut bytes = [0u8; 4096];
+    let n = read_full(&mut rt.reader(), &mut bytes)?;
+    let mut out = [0u8; 4096];
+    let k = show(&bytes[..n], &mut out);
+    rt.write_all(&out[..k])
+}
+
+fn answer(rt: &impl Print, a: Answer) -> io::Result<()> {
     let mut out = [0u8; 34];
     let k = put_answer_line(&mut out, 0, a);
-    io::write_all(STDOUT_FILENO, &out[..k]);
+    rt.write_all(&out[..k])
 }
 
 // A longer text than the buffer holds is the text of no image either.
-fn write_image() {
-    let mut text = io::buffer();
-    let n = io::read_full(STDIN_FILENO, &mut text);
+fn write_image(rt: &(impl Input + Print)) -> io::Result<()> {
+    let mut text = [0u8; 4096];
+    let n = read_full(&mut rt.reader(), &mut text)?;
     let mut out = [0u8; LONGEST];
     let a = compose(&text[..n], &mut out);
     if let Answer::Length(k) = a {
         let long = k as usize;
-        io::write_all(STDOUT_FILENO, &out[..long]);
+        rt.write_all(&out[..long])
     } else {
-        answer(a);
+        answer(rt, a)
     }
 }
 
-fn main() {
+fn main(rt: HostRuntime) -> io::Result<()> {
     let mut word = [0u8; 16];
-    let n = os::arg(1, &mut word);
+    let n = rt.arg(1, &mut word).unwrap_or(0);
     if same(&word[..n], b"read") {
-        read_image();
+        read_image(&rt)
     } else if same(&word[..n], b"write") {
-        write_image();
+        write_image(&rt)
     } else {
-        io::write_all(STDOUT_FILENO, b"imager read or imager write\r\n");
+        rt.write_all(b"imager read or imager write\r\n")
     }
 }

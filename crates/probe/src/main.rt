@@ -9,9 +9,9 @@ ghost use Rattle.std.specs.Prelude.{◌*◌, ◌≤◌, length};
 
 use cells::Cell;
 use cells::stored::{cell_kind, cell_payload, is_finite_cell};
-use libc::{STDIN_FILENO, STDOUT_FILENO};
 use probing::probe;
 use sheet::{Answer, number_of};
+use std::io::Read;
 use words::layout::{RECORD, RECORDS};
 
 // Enough for nine devices, and some words past them.
@@ -92,13 +92,13 @@ fn pack(words: &[u64], bytes: &mut [u8])
 }
 
 // Reads as many words as there are, by way of the bytes, and answers whether they were there.
-fn read_words(words: &mut [u64], bytes: &mut [u8]) -> bool {
+fn read_words(rt: &impl Input, words: &mut [u64], bytes: &mut [u8]) -> bool {
     let n = words.len();
     if n > bytes.len() / 8 {
         return false;
     }
     let k = n * 8;
-    if io::read_full(STDIN_FILENO, &mut bytes[..k]) < k {
+    if rt.reader().read_exact(&mut bytes[..k]).is_err() {
         return false;
     }
     unpack(words, bytes);
@@ -106,14 +106,14 @@ fn read_words(words: &mut [u64], bytes: &mut [u8]) -> bool {
 }
 
 // Writes the words, by way of the bytes, and answers whether they are written.
-fn write_words(words: &[u64], bytes: &mut [u8]) -> bool {
+fn write_words(rt: &impl Print, words: &[u64], bytes: &mut [u8]) -> bool {
     let n = words.len();
     if n > bytes.len() / 8 {
         return false;
     }
     pack(words, bytes);
     let k = n * 8;
-    io::write_all(STDOUT_FILENO, &bytes[..k])
+    rt.write_all(&bytes[..k]).is_ok()
 }
 
 fn cell_words(c: Cell) -> [u64; 3] {
@@ -140,19 +140,19 @@ fn answer_words(a: Answer) -> [u64; 3] {
 }
 
 // Reads the first n of the words.
-fn read_first(words: &mut [u64], n: usize, bytes: &mut [u8]) -> bool {
+fn read_first(rt: &impl Input, words: &mut [u64], n: usize, bytes: &mut [u8]) -> bool {
     if n > words.len() {
         return false;
     }
-    read_words(&mut words[..n], bytes)
+    read_words(rt, &mut words[..n], bytes)
 }
 
 // Writes the first n of the words.
-fn write_first(words: &[u64], n: usize, bytes: &mut [u8]) -> bool {
+fn write_first(rt: &impl Print, words: &[u64], n: usize, bytes: &mut [u8]) -> bool {
     if n > words.len() {
         return false;
     }
-    write_words(&words[..n], bytes)
+    write_words(rt, &words[..n], bytes)
 }
 
 // Makes the call on the first n words of the table, with the first m words of the list.
@@ -175,39 +175,39 @@ fn call_on(t: &mut [u64], n: usize, head: [u64; HEAD], list: &[u64], m: usize) -
 }
 
 // Makes the call of one record, and answers whether there was one.
-fn turn(t: &mut [u64], list: &mut [u64], bytes: &mut [u8]) -> bool {
+fn turn(rt: &(impl Input + Print), t: &mut [u64], list: &mut [u64], bytes: &mut [u8]) -> bool {
     let mut head = [0u64; HEAD];
-    if !read_words(&mut head, bytes) {
+    if !read_words(rt, &mut head, bytes) {
         return false;
     }
     let n = head[0] as usize;
     let m = head[6] as usize;
-    if !read_first(list, m, bytes) {
+    if !read_first(rt, list, m, bytes) {
         return false;
     }
-    if !read_first(t, n, bytes) {
+    if !read_first(rt, t, n, bytes) {
         return false;
     }
     let said = call_on(t, n, head, list, m);
-    if !write_words(&said, bytes) {
+    if !write_words(rt, &said, bytes) {
         return false;
     }
-    write_first(t, n, bytes)
+    write_first(rt, t, n, bytes)
 }
 
 // A proved loop has to end, so it counts its turns down, from a number that no run uses up.
-fn run(t: &mut [u64], list: &mut [u64], bytes: &mut [u8]) {
+fn run(rt: &(impl Input + Print), t: &mut [u64], list: &mut [u64], bytes: &mut [u8]) {
     let mut turns = u64::MAX;
     let mut more = true;
     while turns > 0 && more {
-        more = turn(t, list, bytes);
+        more = turn(rt, t, list, bytes);
         turns -= 1;
     }
 }
 
-fn main() {
+fn main(rt: HostRuntime) {
     let mut t = [0u64; ROOM];
     let mut list = [0u64; LIST];
     let mut bytes = [0u8; BYTES];
-    run(&mut t, &mut list, &mut bytes);
+    run(&rt, &mut t, &mut list, &mut bytes);
 }

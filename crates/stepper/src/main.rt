@@ -3,8 +3,9 @@
 #![tactic(auto)]
 
 use answering::line::WORDS;
-use libc::{STDIN_FILENO, STDOUT_FILENO};
 use lines::{Unended, none};
+use std::io;
+use std::io::Read;
 use stepping::feed::{ANSWERS, CHUNK, feed_chunk, finish_input};
 
 // Whether the input goes on, and what is held of the line that is not ended.
@@ -15,26 +16,33 @@ struct Turn {
 }
 
 // Reads once, and writes the answers out before the next read.
-fn read_some(t: &mut [u64], line: &mut [u8; 81], p: Unended) -> Turn {
+fn read_some(
+    rt: &(impl Input + Print),
+    t: &mut [u64],
+    line: &mut [u8; 81],
+    p: Unended,
+) -> io::Result<Turn> {
     let mut chunk = [0u8; CHUNK];
-    let got = libc::read(STDIN_FILENO, &mut chunk);
-    if got <= 0 {
-        return Turn {
+    let n = rt.reader().read(&mut chunk)?;
+    if n == 0 {
+        return Ok(Turn {
             more: false,
             unended: p,
-        };
+        });
     }
-    let n = io::count(got, &chunk);
     let mut out = [0u8; ANSWERS];
     let run = feed_chunk(t, line, p, &chunk[..n], &mut out);
     let at = run.at;
     let unended = run.unended;
-    let more = io::write_all(STDOUT_FILENO, &out[..at]);
-    Turn { more, unended }
+    rt.write_all(&out[..at])?;
+    Ok(Turn {
+        more: true,
+        unended,
+    })
 }
 
 // Reads to the end of the input. A proved loop has to end, so it counts its reads down, from a number that no run uses up.
-fn read_all(t: &mut [u64], line: &mut [u8; 81]) -> Unended {
+fn read_all(rt: &(impl Input + Print), t: &mut [u64], line: &mut [u8; 81]) -> io::Result<Unended> {
     let p = none();
     let mut turn = Turn {
         more: true,
@@ -43,22 +51,22 @@ fn read_all(t: &mut [u64], line: &mut [u8; 81]) -> Unended {
     let mut turns = u64::MAX;
     while turns > 0 && turn.more {
         let held = turn.unended;
-        turn = read_some(t, line, held);
+        turn = read_some(rt, t, line, held)?;
         turns -= 1;
     }
-    turn.unended
+    Ok(turn.unended)
 }
 
 // The answer to a last line that no CR LF ended.
-fn answer_rest(t: &mut [u64], line: &[u8; 81], p: Unended) {
+fn answer_rest(rt: &impl Print, t: &mut [u64], line: &[u8; 81], p: Unended) -> io::Result<()> {
     let mut out = [0u8; ANSWERS];
     let at = finish_input(t, line, p, &mut out);
-    io::write_all(STDOUT_FILENO, &out[..at]);
+    rt.write_all(&out[..at])
 }
 
-fn main() {
+fn main(rt: HostRuntime) -> io::Result<()> {
     let mut table = [0u64; WORDS];
     let mut line = [0u8; 81];
-    let p = read_all(&mut table, &mut line);
-    answer_rest(&mut table, &line, p);
+    let p = read_all(&rt, &mut table, &mut line)?;
+    answer_rest(&rt, &mut table, &line, p)
 }

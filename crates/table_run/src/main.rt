@@ -5,8 +5,12 @@
 
 #![tactic(auto)]
 
+ghost use Rattle.std.specs.Io.{ReadsAtMost};
+
 use devices::calls::push;
 use showing::{is_done, show_answer, show_changes, write};
+use std::io;
+use std::io::Read;
 use table::begin::start;
 use table::check::is_table;
 use words::layout::{RECORD, RECORDS};
@@ -62,51 +66,57 @@ fn copy(from: &[u64], to: &mut [u64]) {
 }
 
 // Starts a table in the first words of t, and answers whether it did.
-fn started(t: &mut [u64], lent: usize, devices: u64, cells: u64) -> bool {
+fn started(
+    rt: &impl Print,
+    t: &mut [u64],
+    lent: usize,
+    devices: u64,
+    cells: u64,
+) -> io::Result<bool> {
     if lent > t.len() {
-        return false;
+        return Ok(false);
     }
     let a = start(&mut t[..lent], devices, cells);
     if is_done(a) {
-        return true;
+        return Ok(true);
     }
-    write(b" start ");
-    show_answer(a);
-    false
+    write(rt, b" start ")?;
+    show_answer(rt, a)?;
+    Ok(false)
 }
 
-fn show_verdict(b: bool) {
+fn show_verdict(rt: &impl Print, b: bool) -> io::Result<()> {
     if b {
-        write(b" table ");
+        write(rt, b" table ")
     } else {
-        write(b" no table ");
+        write(rt, b" no table ")
     }
 }
 
 // Pushes on the first words of t.
-fn pushed(t: &mut [u64], lent: usize, device: u64) {
+fn pushed(rt: &impl Print, t: &mut [u64], lent: usize, device: u64) -> io::Result<()> {
     if lent <= t.len() {
-        show_verdict(is_table(&t[..lent]));
-        show_answer(push(&mut t[..lent], device));
+        show_verdict(rt, is_table(&t[..lent]))?;
+        show_answer(rt, push(&mut t[..lent], device))?;
     }
+    Ok(())
 }
 
 // What the case changed, and the end of its line.
-fn end(t: &[u64], old: &[u64]) {
-    show_changes(t, old);
-    write(b"\n");
+fn end(rt: &impl Print, t: &[u64], old: &[u64]) -> io::Result<()> {
+    show_changes(rt, t, old)?;
+    write(rt, b"\n")
 }
 
 // The line is read: runs its case.
-fn run(line: Line, t: &mut [u64], old: &mut [u64]) {
+fn run(rt: &impl Print, line: Line, t: &mut [u64], old: &mut [u64]) -> io::Result<()> {
     if !line.started {
-        end(t, old);
-        return;
+        return end(rt, t, old);
     }
     copy(t, old);
     let lent = line.lent as usize;
-    pushed(t, lent, line.device);
-    end(t, old);
+    pushed(rt, t, lent, line.device)?;
+    end(rt, t, old)
 }
 
 // The place after a place: the two of a poke take turns.
@@ -115,7 +125,7 @@ fn after(place: u64) -> u64 {
 }
 
 // The number read is done with: it is kept for later, or it is used.
-fn take(line: Line, t: &mut [u64], old: &mut [u64]) -> Line {
+fn take(rt: &impl Print, line: Line, t: &mut [u64], old: &mut [u64]) -> io::Result<Line> {
     let n = line.number;
     let place = line.place;
     let mut next = line;
@@ -129,12 +139,12 @@ fn take(line: Line, t: &mut [u64], old: &mut [u64]) -> Line {
         }
         3 | 6 => next.lent = n,
         4 => next.devices = n,
-        5 => next.started = started(t, line.lent as usize, line.devices, n),
+        5 => next.started = started(rt, t, line.lent as usize, line.devices, n)?,
         7 => next.device = n,
         8 => next.index = n,
         _ => poke(t, line.index as usize, n),
     }
-    next
+    Ok(next)
 }
 
 fn wide(b: u8) -> u64 {
@@ -161,46 +171,63 @@ fn digit(n: u64, b: u8) -> u64 {
 }
 
 // A byte of the name, which ends at its colon.
-fn name(line: Line, b: u8) -> Line {
+fn name(rt: &impl Print, line: Line, b: u8) -> io::Result<Line> {
     let text = [b; 1];
-    write(&text);
+    write(rt, &text)?;
     let mut next = line;
     if b == b':' {
         next.place = 1;
     }
-    next
+    Ok(next)
 }
 
 // The next byte of the input.
-fn byte(line: Line, b: u8, t: &mut [u64], old: &mut [u64]) -> Line {
+fn byte(rt: &impl Print, line: Line, b: u8, t: &mut [u64], old: &mut [u64]) -> io::Result<Line> {
     if line.place == 0 {
-        return name(line, b);
+        return name(rt, line, b);
     }
     if b == b' ' {
-        return take(line, t, old);
+        return take(rt, line, t, old);
     }
     if b == b'\n' {
-        run(take(line, t, old), t, old);
-        return begun();
+        let last = take(rt, line, t, old)?;
+        run(rt, last, t, old)?;
+        return Ok(begun());
     }
     let mut next = line;
     next.number = digit(line.number, b);
-    next
+    Ok(next)
 }
 
-fn run_all(text: &[u8], t: &mut [u64], old: &mut [u64]) {
+fn run_all(rt: &impl Print, text: &[u8], t: &mut [u64], old: &mut [u64]) -> io::Result<()> {
     let mut line = begun();
     let mut i = 0;
     while i < text.len() {
-        line = byte(line, text[i], t, old);
+        line = byte(rt, line, text[i], t, old)?;
         i += 1;
     }
+    Ok(())
 }
 
-fn main() {
-    let mut text = io::large_buffer();
-    let n = io::read_full(0, &mut text);
+// Reads until buf is full or the input ends, and returns how many bytes it put at the start of buf.
+fn read_full(input: &mut impl Read, buf: &mut [u8]) -> io::Result<usize>
+    ensures { ReadsAtMost result buf.new }
+{
+    let mut done = 0;
+    while done < buf.len() {
+        let n = input.read(&mut buf[done..])?;
+        if n == 0 {
+            break;
+        }
+        done += n;
+    }
+    Ok(done)
+}
+
+fn main(rt: HostRuntime) -> io::Result<()> {
+    let mut text = [0u8; 65536];
+    let n = read_full(&mut rt.reader(), &mut text)?;
     let mut t = [0; ROOM];
     let mut old = [0; ROOM];
-    run_all(&text[..n], &mut t, &mut old);
+    run_all(&rt, &text[..n], &mut t, &mut old)
 }
