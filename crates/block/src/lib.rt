@@ -1,5 +1,5 @@
-// The pasted block: a lent slice of updates, joined to a device's open transaction in one call, all or none. `block` walks the slice, and is
-// proved by hand; each turn of it is `turn`, on plain values.
+// The pasted block: a lent slice of updates, joined to a device's open transaction in one call, all or none. `block` walks the slice;
+// each turn of it is `turn`, on plain values.
 
 #![tactic(auto)]
 
@@ -141,7 +141,7 @@ pub fn block(t: &mut [u64], d: u64, entries: &[Entry]) -> Answer
     told(w)
 }
 
-// The first k of four updates by value: its parameters are plain, so whoever calls it needs no proof by hand.
+// The first k of four updates by value, for programs that hold them so.
 pub fn block_of(t: &mut [u64], d: u64, entries: [Entry; 4], k: usize) -> Answer
     requires { k ≤ 4 }
     ensures { Stepped (step sheet (machine.block d (updates_in (take k entries)))) t.old result t.new }
