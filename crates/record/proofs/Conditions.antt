@@ -6,7 +6,7 @@ use mathlib.Core.Option.{some}
 use Prim.Native.Nat.{ℕ, zero, suc, ◌+◌, ◌*◌, ◌-◌, ◌≤◌, ◌<◌}
 use native.Mathlib.Omega.{arith}
 use lib.ListN.{length, get_or, get_elem?, length-drop}
-use Rattle.protocol.specs.Machine.{given, gives, asked}
+use Rattle.protocol.specs.Machine.{given, gives}
 use Rattle.protocol.specs.Fits.{numbers, number_at, is_prefix}
 use Rattle.sheet.specs.Sheet.{sheet}
 use Rattle.words.specs.Layout.{ROUND, ITEM, ITEM_NUMBERS, PREFIX, ASKED, CHANNEL, PENDING_LENGTH, WAITING_LENGTH, ITEMS_LENGTH, RECEIVED, PENDING, WAITING, ITEMS, RECORD}

@@ -1,5 +1,4 @@
 -- `cells::measured::bits_of_f64` meets its contract: a finite value is no NaN.
-use Rattle.std.proofs.Common.{rules}
 use Rattle.cells.proofs.Finite.{finite_no_nan}
 use Rattle.cells.proofs.measured.bits_of_f64.Goals as goal
 

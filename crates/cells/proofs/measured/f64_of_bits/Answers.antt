@@ -1,5 +1,4 @@
 -- `cells::measured::f64_of_bits` meets its contract: a finite value's pattern is no NaN's.
-use Rattle.std.proofs.Common.{rules}
 use Rattle.cells.proofs.Finite.{word_no_nan}
 use Rattle.cells.proofs.measured.f64_of_bits.Goals as goal
 

@@ -1,5 +1,5 @@
 -- `cells::signed::bits_of_i64` meets its contract. The local holds x's word, and a word of the lower half is cast as it is: x's own, or its complement.
-use Rattle.std.proofs.Common.{ℕ, ◌-◌, ◌^◌, ◌<◌, ap, ◌∙◌, arith, w64, of_z}
+use Rattle.std.proofs.Common.{ℕ, ◌-◌, ◌^◌, ap, ◌∙◌, arith, w64, of_z}
 use mir.ValLaws.{of_z_fits}
 use Rattle.cells.proofs.Words.{from_zero, below_zero, casts, cast_is}
 use Rattle.cells.proofs.signed.bits_of_i64.Goals as goal

@@ -1,5 +1,5 @@
 -- `cells::signed::wrapping_add_i64` meets its contract: the sum of the words, reduced, is read as a number.
-use Rattle.std.proofs.Common.{ap, ◌∙◌, to_z-of_z, w64, of_z, rules}
+use Rattle.std.proofs.Common.{ap, ◌∙◌, to_z-of_z, w64, of_z}
 use Rattle.cells.proofs.Words.{returned}
 use Rattle.cells.proofs.Laws.{wrap_is}
 use Rattle.cells.proofs.signed.wrapping_add_i64.Goals as goal

@@ -1,8 +1,5 @@
 -- `cells::stored::cell_of` meets its contract: words that are ok and of no other kind are a measured number's.
-use Rattle.std.proofs.Common.{◌≡◌, true, sym, ap, ◌∙◌, rules}
-use lib.Ieee.{binary64, of_bits}
-use Rattle.cells.specs.Finite.{finite_word}
-use Rattle.cells.specs.Stored.{cell_of}
+use Rattle.std.proofs.Common.{sym, ap, ◌∙◌}
 use Rattle.cells.specs.declared.Cell.TheVariants.{Count, Measure}
 use Rattle.cells.proofs.Words.{returned}
 use Rattle.cells.proofs.StoredForm.{measure_kind}

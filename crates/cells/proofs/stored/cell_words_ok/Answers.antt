@@ -1,5 +1,5 @@
 -- `cells::stored::cell_words_ok` meets its contract, an arm for each kind.
-use Rattle.std.proofs.Common.{◌^◌, sym, refl, arith, rules, lt-ltb}
+use Rattle.std.proofs.Common.{◌^◌, sym, refl, arith, lt-ltb}
 use Rattle.cells.proofs.StoredForm.{no_kind}
 use Rattle.cells.proofs.stored.cell_words_ok.Goals as goal
 

@@ -1,5 +1,5 @@
 -- `cells::stored::change_from` meets its contract: a kind but 0 and 4 is one more than a cell's.
-use Rattle.std.proofs.Common.{ap, ◌∙◌, rules}
+use Rattle.std.proofs.Common.{ap, ◌∙◌}
 use Rattle.cells.specs.declared.Change.TheVariants.{Set, Add}
 use Rattle.cells.proofs.Words.{returned}
 use Rattle.cells.proofs.StoredForm.{set_kind, set_is}

@@ -1,5 +1,5 @@
 -- `cells::stored::change_kind` meets its contract: a cell's kind is small, so one more fits.
-use Rattle.std.proofs.Common.{suc, ap, ◌∙◌, add-one, arith, rules}
+use Rattle.std.proofs.Common.{suc, ap, ◌∙◌, add-one, arith}
 use Rattle.cells.proofs.StoredForm.{kind_lt}
 use Rattle.cells.proofs.stored.change_kind.Goals as goal
 

@@ -1,5 +1,5 @@
 -- `cells::stored::change_words_ok` meets its contract: a kind but 0 and 4 is one more than a cell's.
-use Rattle.std.proofs.Common.{◌^◌, sym, refl, ◌∙◌, arith, rules, lt-ltb}
+use Rattle.std.proofs.Common.{◌^◌, sym, refl, ◌∙◌, arith, lt-ltb}
 use Rattle.cells.proofs.StoredForm.{set_kind}
 use Rattle.cells.proofs.stored.change_words_ok.Goals as goal
 

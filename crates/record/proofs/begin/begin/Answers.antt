@@ -1,7 +1,6 @@
 -- `record::begin::begin` meets its contract: the blank sheet is stored first.
 use Rattle.record.proofs.Begins.{begun_blank}
 use native.Mathlib.Omega.{arith}
-use borrow.Author.Rules.{rules}
 use Rattle.record.proofs.begin.begin.Goals as goal
 
 pub begin_knowing-requires : goal.begin_knowing-requires

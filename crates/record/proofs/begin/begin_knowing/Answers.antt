@@ -2,7 +2,6 @@
 use lib.ListN.{length-set}
 use Rattle.record.proofs.Begins.{begun}
 use native.Mathlib.Omega.{arith}
-use borrow.Author.Rules.{rules}
 use Rattle.record.proofs.begin.begin_knowing.Goals as goal
 
 pub bounds-r-0 : goal.bounds-r-0

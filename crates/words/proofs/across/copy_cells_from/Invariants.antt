@@ -1,12 +1,9 @@
 -- `words::across::copy_cells_from` meets its contract: each turn stores one place more.
-use mathlib.Core.Path.{◌≡◌, refl, ◌∙◌, ap}
+use mathlib.Core.Path.{◌≡◌}
 use Prim.Native.Nat.{◌≤◌, ◌-◌, ◌+◌, ◌*◌}
 use lib.ListN.{length}
 use Rattle.words.specs.Layout.{CELL}
 use Rattle.words.specs.Place.{cell_at, cell_place, Filled}
-use Rattle.words.proofs.Places.{cell_local, cell_is_finite, filled_none, filled_more}
-use Rattle.cells.specs.Stored.{cell_finite}
-use native.Mathlib.Omega.{arith}
 use Rattle.words.proofs.across.copy_cells_from.Given as goal
 
 abbrev pub invariant-loop-i : goal.invariant-loop-i

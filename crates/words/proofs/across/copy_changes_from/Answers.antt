@@ -1,9 +1,6 @@
 -- `words::across::copy_changes_from` meets its contract: each turn stores one place more.
 use mathlib.Core.Path.{◌≡◌, refl, ◌∙◌, ap}
-use Prim.Native.Nat.{◌≤◌, ◌-◌, ◌+◌, ◌*◌}
-use lib.ListN.{length}
-use Rattle.words.specs.Layout.{CHANGE}
-use Rattle.words.specs.Place.{change_at, change_place, Filled}
+use Rattle.words.specs.Place.{change_place}
 use Rattle.words.proofs.Places.{change_local, change_is_finite, filled_none, filled_more}
 use Rattle.cells.specs.Stored.{change_finite}
 use native.Mathlib.Omega.{arith}

@@ -1,12 +1,9 @@
 -- `words::across::copy_changes_from` meets its contract: each turn stores one place more.
-use mathlib.Core.Path.{◌≡◌, refl, ◌∙◌, ap}
+use mathlib.Core.Path.{◌≡◌}
 use Prim.Native.Nat.{◌≤◌, ◌-◌, ◌+◌, ◌*◌}
 use lib.ListN.{length}
 use Rattle.words.specs.Layout.{CHANGE}
 use Rattle.words.specs.Place.{change_at, change_place, Filled}
-use Rattle.words.proofs.Places.{change_local, change_is_finite, filled_none, filled_more}
-use Rattle.cells.specs.Stored.{change_finite}
-use native.Mathlib.Omega.{arith}
 use Rattle.words.proofs.across.copy_changes_from.Given as goal
 
 abbrev pub invariant-loop-i : goal.invariant-loop-i

@@ -1,8 +1,6 @@
 -- `words::across::copy_numbers_from` meets its contract: each turn stores one number more.
 use mathlib.Core.Path.{◌≡◌, refl, ◌∙◌}
-use Prim.Native.Nat.{◌≤◌, ◌-◌, ◌+◌}
-use lib.ListN.{length, get_or, length-set}
-use Rattle.words.specs.Place.{Numbers}
+use lib.ListN.{length-set}
 use Rattle.words.proofs.Places.{numbers_none, numbers_more}
 use native.Mathlib.Omega.{arith}
 use Rattle.words.proofs.across.copy_numbers_from.Goals as goal

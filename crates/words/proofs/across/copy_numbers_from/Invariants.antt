@@ -1,10 +1,8 @@
 -- `words::across::copy_numbers_from` meets its contract: each turn stores one number more.
-use mathlib.Core.Path.{◌≡◌, refl, ◌∙◌}
+use mathlib.Core.Path.{◌≡◌}
 use Prim.Native.Nat.{◌≤◌, ◌-◌, ◌+◌}
-use lib.ListN.{length, get_or, length-set}
+use lib.ListN.{length, get_or}
 use Rattle.words.specs.Place.{Numbers}
-use Rattle.words.proofs.Places.{numbers_none, numbers_more}
-use native.Mathlib.Omega.{arith}
 use Rattle.words.proofs.across.copy_numbers_from.Given as goal
 
 abbrev pub invariant-loop-i : goal.invariant-loop-i

@@ -1,14 +1,10 @@
 -- `words::across::join_changes_from` meets its contract: the place of a turn is as it was at the start.
-use borrow.Author.Rules.{rules}
-use mathlib.Core.Path.{◌≡◌, refl, ◌∙◌, ap₂}
+use mathlib.Core.Path.{◌≡◌}
 use Prim.Native.Nat.{◌≤◌, ◌-◌, ◌+◌, ◌*◌}
 use lib.ListN.{length}
 use Rattle.words.specs.Layout.{CHANGE}
 use Rattle.words.specs.Place.{change_at, change_place, Filled}
-use Rattle.words.proofs.Places.{change_local, filled_none, filled_more}
-use Rattle.words.proofs.Runs.{target_value, target_valid, stores_joined}
 use Rattle.cells.specs.Cells.{joined}
-use native.Mathlib.Omega.{arith}
 use Rattle.words.proofs.across.join_changes_from.Given as goal
 
 abbrev pub invariant-loop-i : goal.invariant-loop-i

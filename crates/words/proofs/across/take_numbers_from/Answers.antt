@@ -1,9 +1,8 @@
 -- `words::across::take_numbers_from` meets its contract: each turn stores one number more.
-use borrow.Author.Rules.{rules}
 use mathlib.Core.Path.{◌≡◌, refl, ◌∙◌}
-use Prim.Native.Nat.{◌≤◌, ◌-◌, ◌+◌}
-use lib.ListN.{length, get_or, length-set}
-use Rattle.words.specs.Place.{Numbers, later_number}
+use Prim.Native.Nat.{◌+◌}
+use lib.ListN.{get_or, length-set}
+use Rattle.words.specs.Place.{later_number}
 use Rattle.words.proofs.Places.{numbers_none, numbers_more}
 use native.Mathlib.Omega.{arith}
 use Rattle.words.proofs.across.take_numbers_from.Goals as goal

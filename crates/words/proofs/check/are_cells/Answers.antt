@@ -1,10 +1,7 @@
 -- `words::check::are_cells` meets its contract: it stops at the first place that is not valid.
-use borrow.Author.Rules.{rules}
 use mathlib.Core.Path.{◌≡◌, ◌∙◌, sym}
-use Prim.Native.Nat.{◌≤◌, ◌-◌}
 use native.Mathlib.Omega.{arith}
-use borrow.Author.Tests.{not-true, not-false}
-use Rattle.words.specs.Place.{cell_ok, cell_place, Valid}
+use Rattle.words.specs.Place.{cell_ok}
 use Rattle.words.proofs.Places.{below_suc}
 use Rattle.words.proofs.Tests.{says_true, says_false, true_false}
 use Rattle.words.proofs.check.are_cells.Goals as goal

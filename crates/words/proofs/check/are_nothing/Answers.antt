@@ -1,12 +1,6 @@
 -- `words::check::are_nothing` meets its contract: it stops at the first change that is not nothing.
-use borrow.Author.Rules.{rules}
 use mathlib.Core.Path.{◌≡◌, sym, ◌∙◌}
-use Prim.Native.Nat.{ℕ, ◌≤◌, ◌<◌, ◌-◌, ◌+◌, ◌*◌}
 use native.Mathlib.Omega.{arith}
-use borrow.Author.Tests.{not-true, not-false}
-use Rattle.cells.specs.declared.Change.TheVariants.{Nothing}
-use Rattle.words.specs.Layout.{CHANGE}
-use Rattle.words.specs.Place.{change_at}
 use Rattle.words.proofs.Places.{below_suc}
 use Rattle.words.proofs.Tests.{says_true, says_false}
 use Rattle.words.proofs.check.are_nothing.Goals as goal

@@ -1,6 +1,5 @@
 -- `words::check::is_nothing` meets its contract: each arm says what the change is.
 use Rattle.words.proofs.Tests.{says_true, says_false, set_not_nothing, add_not_nothing}
-use borrow.Author.Rules.{rules}
 use Rattle.words.proofs.check.is_nothing.Goals as goal
 
 pub returns-in-Nothing : goal.returns-in-Nothing

@@ -1,6 +1,5 @@
 -- `words::place::get_cell` meets its contract: its two words are those that the definition reads.
 use Rattle.words.specs.Place.{cell_at, cell_ok}
-use borrow.Author.Rules.{rules}
 use Rattle.words.proofs.place.get_cell.Goals as goal
 
 pub cell_of-requires : goal.cell_of-requires

@@ -1,6 +1,5 @@
 -- `words::place::get_change` meets its contract: its two words are those that the definition reads.
 use Rattle.words.specs.Place.{change_at, change_ok}
-use borrow.Author.Rules.{rules}
 use Rattle.words.proofs.place.get_change.Goals as goal
 
 pub change_from-requires : goal.change_from-requires

@@ -3,7 +3,6 @@ use native.Mathlib.Omega.{arith}
 use lib.ListN.{length-set}
 use Rattle.cells.proofs.Ranges.{cell_fits}
 use Rattle.words.proofs.Places.{put_cell_is}
-use borrow.Author.Rules.{rules}
 use Rattle.words.proofs.place.put_cell.Goals as goal
 
 pub bounds-t-o-2 : goal.bounds-t-o-2

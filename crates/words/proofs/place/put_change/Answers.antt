@@ -3,7 +3,6 @@ use native.Mathlib.Omega.{arith}
 use lib.ListN.{length-set}
 use Rattle.cells.proofs.Ranges.{change_fits}
 use Rattle.words.proofs.Places.{put_change_is}
-use borrow.Author.Rules.{rules}
 use Rattle.words.proofs.place.put_change.Goals as goal
 
 pub bounds-t-o-2 : goal.bounds-t-o-2

@@ -1,11 +1,7 @@
 -- `words::run::apply_changes` meets its contract: the cell and the change of a turn are as they were at the start.
-use borrow.Author.Rules.{rules}
 use mathlib.Core.Path.{◌≡◌, refl, ◌∙◌, ap₂}
-use Prim.Native.Nat.{◌≤◌, ◌-◌, ◌+◌, ◌*◌}
 use native.Mathlib.Omega.{arith}
-use lib.ListN.{length}
-use Rattle.words.specs.Layout.{CELL, CHANGE}
-use Rattle.words.specs.Place.{cell_at, change_at, cell_place, change_place, Filled}
+use Rattle.words.specs.Place.{cell_place, change_place}
 use Rattle.words.proofs.Places.{cell_local, change_local, filled_none, filled_more}
 use Rattle.words.proofs.Runs.{target_value, target_valid, source_value, source_valid, stores_applied}
 use Rattle.cells.specs.Cells.{applied}

@@ -1,11 +1,8 @@
 -- `words::run::clear_changes` meets its contract: each turn stores one place more.
 use mathlib.Core.Path.{◌≡◌, refl, ◌∙◌}
-use Prim.Native.Nat.{◌≤◌, ◌-◌}
 use native.Mathlib.Omega.{arith}
-use lib.ListN.{length}
-use Rattle.words.specs.Place.{change_place, Filled}
+use Rattle.words.specs.Place.{change_place}
 use Rattle.words.proofs.Places.{change_local, filled_none, filled_more}
-use Rattle.cells.specs.declared.Change.TheVariants.{Nothing}
 use Rattle.words.proofs.run.clear_changes.Goals as goal
 
 pub loop-i-init : goal.loop-i-init

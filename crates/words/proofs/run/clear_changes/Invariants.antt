@@ -1,10 +1,8 @@
 -- `words::run::clear_changes` meets its contract: each turn stores one place more.
-use mathlib.Core.Path.{◌≡◌, refl, ◌∙◌}
+use mathlib.Core.Path.{◌≡◌}
 use Prim.Native.Nat.{◌≤◌, ◌-◌}
-use native.Mathlib.Omega.{arith}
 use lib.ListN.{length}
 use Rattle.words.specs.Place.{change_place, Filled}
-use Rattle.words.proofs.Places.{change_local, filled_none, filled_more}
 use Rattle.cells.specs.declared.Change.TheVariants.{Nothing}
 use Rattle.words.proofs.run.clear_changes.Given as goal
 

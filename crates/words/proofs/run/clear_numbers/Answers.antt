@@ -1,9 +1,7 @@
 -- `words::run::clear_numbers` meets its contract: each turn stores one number more.
 use mathlib.Core.Path.{◌≡◌, refl, ◌∙◌}
-use Prim.Native.Nat.{◌≤◌, ◌-◌}
 use native.Mathlib.Omega.{arith}
-use lib.ListN.{length, length-set}
-use Rattle.words.specs.Place.{Numbers}
+use lib.ListN.{length-set}
 use Rattle.words.proofs.Places.{numbers_none, numbers_more}
 use Rattle.words.proofs.run.clear_numbers.Goals as goal
 

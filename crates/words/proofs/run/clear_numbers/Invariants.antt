@@ -1,10 +1,8 @@
 -- `words::run::clear_numbers` meets its contract: each turn stores one number more.
-use mathlib.Core.Path.{◌≡◌, refl, ◌∙◌}
+use mathlib.Core.Path.{◌≡◌}
 use Prim.Native.Nat.{◌≤◌, ◌-◌}
-use native.Mathlib.Omega.{arith}
-use lib.ListN.{length, length-set}
+use lib.ListN.{length}
 use Rattle.words.specs.Place.{Numbers}
-use Rattle.words.proofs.Places.{numbers_none, numbers_more}
 use Rattle.words.proofs.run.clear_numbers.Given as goal
 
 abbrev pub invariant-loop-i : goal.invariant-loop-i

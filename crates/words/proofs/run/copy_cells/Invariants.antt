@@ -1,13 +1,9 @@
 -- `words::run::copy_cells` meets its contract: what it reads is not yet stored over.
-use mathlib.Core.Path.{◌≡◌, refl, ap, ◌∙◌}
+use mathlib.Core.Path.{◌≡◌}
 use Prim.Native.Nat.{◌≤◌, ◌-◌, ◌+◌, ◌*◌}
-use native.Mathlib.Omega.{arith}
 use lib.ListN.{length}
 use Rattle.words.specs.Layout.{CELL}
 use Rattle.words.specs.Place.{cell_at, cell_place, Filled}
-use Rattle.words.proofs.Places.{cell_local, cell_is_finite, filled_none, filled_more}
-use Rattle.words.proofs.Runs.{source_value, source_valid}
-use Rattle.cells.specs.Stored.{cell_finite}
 use Rattle.words.proofs.run.copy_cells.Given as goal
 
 abbrev pub invariant-loop-i : goal.invariant-loop-i

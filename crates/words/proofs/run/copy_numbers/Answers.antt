@@ -1,9 +1,8 @@
 -- `words::run::copy_numbers` meets its contract: each turn stores one number more.
 use mathlib.Core.Path.{◌≡◌, refl, ◌∙◌}
-use Prim.Native.Nat.{◌≤◌, ◌-◌, ◌+◌}
+use Prim.Native.Nat.{◌+◌}
 use native.Mathlib.Omega.{arith}
-use lib.ListN.{length, get_or, length-set}
-use Rattle.words.specs.Place.{Numbers}
+use lib.ListN.{length-set}
 use Rattle.words.proofs.Places.{numbers_none, numbers_more}
 use Rattle.words.proofs.run.copy_numbers.Goals as goal
 

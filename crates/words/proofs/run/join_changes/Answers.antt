@@ -1,11 +1,7 @@
 -- `words::run::join_changes` meets its contract: both changes of a turn are as they were at the start.
-use borrow.Author.Rules.{rules}
 use mathlib.Core.Path.{◌≡◌, refl, ◌∙◌, ap₂}
-use Prim.Native.Nat.{◌≤◌, ◌-◌, ◌+◌, ◌*◌}
 use native.Mathlib.Omega.{arith}
-use lib.ListN.{length}
-use Rattle.words.specs.Layout.{CHANGE}
-use Rattle.words.specs.Place.{change_at, change_place, Filled}
+use Rattle.words.specs.Place.{change_place}
 use Rattle.words.proofs.Places.{change_local, filled_none, filled_more}
 use Rattle.words.proofs.Runs.{target_value, target_valid, source_value, source_valid, stores_joined}
 use Rattle.cells.specs.Cells.{joined}

@@ -1,6 +1,5 @@
 -- `words::run::later_number` meets its contract: 0 gives no number.
 use Rattle.words.proofs.Runs.{later_new}
-use borrow.Author.Rules.{rules}
 use Rattle.words.proofs.run.later_number.Goals as goal
 
 pub returns : goal.returns

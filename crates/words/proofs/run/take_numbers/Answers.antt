@@ -1,10 +1,9 @@
 -- `words::run::take_numbers` meets its contract: each turn stores one number more.
-use borrow.Author.Rules.{rules}
 use mathlib.Core.Path.{◌≡◌, refl, ◌∙◌}
-use Prim.Native.Nat.{◌≤◌, ◌-◌, ◌+◌}
+use Prim.Native.Nat.{◌+◌}
 use native.Mathlib.Omega.{arith}
-use lib.ListN.{length, get_or, length-set}
-use Rattle.words.specs.Place.{Numbers, later_number}
+use lib.ListN.{length-set}
+use Rattle.words.specs.Place.{later_number}
 use Rattle.words.proofs.Places.{numbers_none, numbers_more}
 use Rattle.words.proofs.run.take_numbers.Goals as goal
 

@@ -1,11 +1,8 @@
 -- `words::run::take_numbers` meets its contract: each turn stores one number more.
-use borrow.Author.Rules.{rules}
-use mathlib.Core.Path.{◌≡◌, refl, ◌∙◌}
+use mathlib.Core.Path.{◌≡◌}
 use Prim.Native.Nat.{◌≤◌, ◌-◌, ◌+◌}
-use native.Mathlib.Omega.{arith}
-use lib.ListN.{length, get_or, length-set}
+use lib.ListN.{length, get_or}
 use Rattle.words.specs.Place.{Numbers, later_number}
-use Rattle.words.proofs.Places.{numbers_none, numbers_more}
 use Rattle.words.proofs.run.take_numbers.Given as goal
 
 abbrev pub invariant-loop-i : goal.invariant-loop-i
