@@ -23,10 +23,6 @@ use Rattle.probing.specs.Probe.{update_from, entry_at, calls, numbered, Probed}
 pub probed_as : (call told a b : ℕ) (u : Update) (ws xs : List ℕ) (r : Answer) (ys : List ℕ) → call ≡ told → DoesWith Started (numbered (calls a b u ws) told) xs r ys → Probed call a b u ws xs r ys
 probed_as call told a b u ws xs r ys e h = record { holds = subst (λ (n : ℕ). DoesWith Started (numbered (calls a b u ws) n) xs r ys) (sym e) h }
 
--- from k on, and not k
-pub beyond : (k n : ℕ) → (n ≡ k → ⊥) → k ≤ n → k + 1 ≤ n
-beyond k n a h = omega arith
-
 -- past the last number there is no step
 pub numbered_past : (qs : List Asked) (n : ℕ) → length qs ≤ n → numbered qs n ≡ no_step
 numbered_past [] n h = refl
