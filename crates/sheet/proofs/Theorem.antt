@@ -5,22 +5,27 @@ use mathlib.Core.Bool.{false}
 use mathlib.Core.Option.{some}
 use Prim.Native.Nat.{ℕ, ◌≤◌, ◌<◌}
 use Rattle.cells.specs.declared.Cell.{Cell}
+use Rattle.cells.specs.declared.Update.{Update}
 use Rattle.protocol.specs.declared.Refusal.{Refusal}
 use Rattle.protocol.specs.declared.Refusal.TheVariants.{NoDevice, NoCell, NotFinite}
-use Rattle.protocol.specs.Machine.{view, update, refused}
+use Rattle.protocol.specs.Machine.{view, update, value, refused}
 use Rattle.protocol.specs.History.{table_after, history_after}
 use Rattle.protocol.specs.Refusals.{Answers, RefusedExactlyWhen}
-use Rattle.protocol.specs.Claims.{Demand3, Demand3Onward, Reconnected, RefusalChangesNothing, MovedShrinks, ReachedFits}
+use Rattle.protocol.specs.Claims.{Demand3, PushesNumbered, Demand3Onward, Reconnected, RefusalChangesNothing, MovedShrinks, ReachedFits}
 use Rattle.protocol.proofs.Theorem as Protocol
 use Rattle.sheet.specs.Changes.{idle_below, refuses_update}
 use Rattle.cells.specs.Stored.{update_finite}
 use Rattle.sheet.specs.Sheet.{sheet}
-use Rattle.sheet.specs.Claims.{ConfirmedNothingOpen, UpdateRefusedWhen}
+use Rattle.sheet.specs.Claims.{ConfirmedNothingOpen, UpdateRefusedWhen, SetIsRead, update_of}
 use Rattle.sheet.proofs.Updates.{no_cell, not_finite, not_refused, never_device, cell≢device, finite≢device}
+use Rattle.sheet.proofs.OpenEdits.{reads_joined, view_updated}
 use Rattle.sheet.proofs.NeverLost.{nothing_lost}
 
 pub demand_3 : Demand3 sheet
 demand_3 = Protocol.demand_3 sheet
+
+pub pushes_numbered : PushesNumbered sheet
+pushes_numbered = Protocol.pushes_numbered sheet
 
 pub demand_3_onward : Demand3Onward sheet
 demand_3_onward = Protocol.demand_3_onward sheet
@@ -77,3 +82,9 @@ update_refused_when t d u =
     of_number (inr p) =
         let f = (not_finite t.cells d s u).0 p.1 in
         (p.0, f.0, f.1)
+
+pub set_is_read : SetIsRead
+set_is_read t d c v l h f =
+    let u = update_of c (Update.Set v) in
+    let n = (not_refused t.cells d (view sheet (t.device d)) u).1 (h, f) in
+    record { set = ((refused_exactly_when t d).update_done u).1 (l, n); is_read = reads_joined t d u l n c h ∙ ap value (view_updated (t.device d) u) }
