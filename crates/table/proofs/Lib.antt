@@ -6,3 +6,4 @@ pub mod Each
 pub mod Starts
 pub mod Once
 pub mod InUse
+pub mod Theorems

@@ -1,11 +1,52 @@
--- "prove that no second outcome fits", and that a call depends on no word but those in use. Assumes nothing.
-use Rattle.std.specs.Prelude.{◌≡◌, List, ℕ, ◌≤◌, length, get_or}
-use Rattle.protocol.specs.Machine.{Table, Result}
+-- What document 01 says of every table, its need and its words, and of every call: its number of refusal, that "no second outcome fits", and that it
+-- depends on no word but those in use. Assumes nothing.
+use Rattle.std.specs.Prelude.{◌≡◌, List, ℕ, ◌*◌, ◌≤◌, length, get_or, replicate}
+use Rattle.protocol.specs.declared.Refusal.{Refusal}
+use Rattle.protocol.specs.Machine.{Table, Result, done, refused, refused_at}
+use Rattle.protocol.specs.Machine as machine
+use Rattle.protocol.specs.Refusals.{number_of}
 use Rattle.sheet.specs.Sheet.{sheet}
+use Rattle.sheet.specs.Answer.{meaning}
 use Rattle.sheet.specs.declared.Answer.{Answer}
 use Rattle.words.specs.Layout.{DEVICES}
-use Rattle.table.specs.Table.{need, reading, InTable, IsTable}
+use Rattle.table.specs.Table.{need, reading, InTable, ValidTable, IsTable}
 use Rattle.table.specs.Promise.{Stepped, Started}
+
+-- "An all-zero slice is none", of any length.
+abbrev pub AllZeroIsNone : Type 0
+AllZeroIsNone = (n : ℕ) → IsTable (replicate n 0) → ⊥
+
+-- "That need is .. in the base at most 40,000 bytes per device", from one device on; a word has 8 bytes.
+abbrev pub NeedInBytes : Type 0
+NeedInBytes = (devices : ℕ) → 1 ≤ devices → 8 * need devices ≤ 40000 * devices
+
+-- "Bytes past the table's need stay unread": no word past it is in use, so no call depends on it and each keeps it.
+abbrev pub NonePastTheNeed : Type 0
+NonePastTheNeed = (xs : List ℕ) → ValidTable xs → (i : ℕ) → need (get_or xs DEVICES 0) ≤ i → InTable xs i → ⊥
+
+-- Document 01's number of a refusal, and 0 of every other answer: of the machine's answers, and of the code's.
+abbrev pub number_in : machine.Answer sheet → ℕ
+number_in machine.done = 0
+number_in (machine.value c) = 0
+number_in machine.says_yes = 0
+number_in machine.says_no = 0
+number_in (machine.moved k) = 0
+number_in (machine.length_is k) = 0
+number_in (machine.refused r) = number_of r
+number_in (machine.refused_at r k) = number_of r
+
+abbrev pub refusal_number : Answer → ℕ
+refusal_number a = number_in (meaning a)
+
+-- "A refusal returns its number": 1 where the contents are no table; else document 01's number of the machine's refusal, and 0 where it gives none.
+pub record ByNumber (s : Table sheet → Result sheet) (xs : List ℕ) (a : Answer) : Type 0 where
+  pub no_table : (IsTable xs → ⊥) → refusal_number a ≡ 1
+  pub refusal : IsTable xs → (r : Refusal) → (s (reading xs)).answer ≡ refused r → refusal_number a ≡ number_of r
+  pub refusal_at : IsTable xs → (r : Refusal) (k : ℕ) → (s (reading xs)).answer ≡ refused_at r k → refusal_number a ≡ number_of r
+  pub number : IsTable xs → refusal_number a ≡ number_in (s (reading xs)).answer
+
+abbrev pub RefusalsByNumber : Type 0
+RefusalsByNumber = (s : Table sheet → Result sheet) (xs ys : List ℕ) (a : Answer) → Stepped s xs a ys → ByNumber s xs a
 
 -- Two outcomes of one call on the same words are the same, answer and every word, on a table or not.
 abbrev pub OneOutcome : Type 0
@@ -30,3 +71,14 @@ pub record Alike (s : Table sheet → Result sheet) (xs ys : List ℕ) : Type 0 
 
 abbrev pub OnlyWordsInUse : Type 0
 OnlyWordsInUse = (s : Table sheet → Result sheet) (xs ys : List ℕ) → Agree xs ys → Alike s xs ys
+
+-- A table made in the words xs, and in others with as much room: the answers are the same, and so is each word in use; every other word is kept.
+pub record MadeAlike (xs xs' ys' : List ℕ) (a b : Answer) : Type 0 where
+  pub answers : a ≡ b
+  pub words : meaning a ≡ done → (i : ℕ) → InTable xs' i → get_or ys' i 0 ≡ get_or xs' i 0
+  pub kept : (i : ℕ) → (InTable xs' i → ⊥) → get_or xs' i 0 ≡ get_or xs i 0
+
+-- start reads no word of the slice, and leaves alone those that its table does not use.
+abbrev pub StartReadsNoWord : Type 0
+StartReadsNoWord = (devices cells : ℕ) (xs ys xs' ys' : List ℕ) (a b : Answer) → need devices ≤ length xs → need devices ≤ length ys
+    → Started devices cells xs a xs' → Started devices cells ys b ys' → MadeAlike xs xs' ys' a b
