@@ -26,8 +26,10 @@ use Rattle.record.specs.Reading.{below, places_at, queue}
 use Rattle.record.proofs.Queues.{queue_length}
 use Rattle.table.specs.Promise.{Became}
 use Rattle.table.specs.Table.{IsTable, need, reading, record_at}
+use Rattle.table.proofs.InUse.{says_same, also_table, agree_back}
 use Rattle.table.proofs.Once.{became_once, either_way, refused_once}
-use Rattle.image.specs.Claims.{OneOpening, OneWriting, OpenedIsTable, OpenedWritten, OpeningAlwaysAnswers, WritingAlwaysAnswers, WrittenOpened}
+use Rattle.table.proofs.Theorems.{made_alike}
+use Rattle.image.specs.Claims.{OneOpening, OneWriting, OpenedIsTable, OpenedWritten, OpeningAlwaysAnswers, OpeningReadsNoWord, WritingAlwaysAnswers, WritingReadsWordsInUse, WrittenOpened}
 use Rattle.coding.specs.Image.{Allowed, NotImage, NumberAllowed, image_of}
 use Rattle.image.specs.Promise.{Makes, Opened, Stores, image_of_table, start_of}
 use Rattle.image.specs.Words.{cell_in}
@@ -160,3 +162,16 @@ one_opening bytes xs ys zs a b A B = either_way (Image bytes) a b ys zs
   where
     made : {s : Start sheet} → Makes s xs a ys → Makes s xs b zs → (a ≡ b) × (ys ≡ zs)
     made {s} M N = ⊎_elim (λ l. refused_once NoTable xs ys zs a b (M.short l) (N.short l)) (λ g. (meaning_one a b (M.answer g ∙ sym (N.answer g)), became_once xs ys zs (fresh sheet s) (M.after g) (N.after g))) (lt_or_ge (length xs) (need s.devices))
+
+pub writing_reads_words_in_use : WritingReadsWordsInUse
+writing_reads_words_in_use xs ys old new other a b A W R = one_writing xs old new other a b W
+    record {
+      no_table = λ n. R.no_table (λ T. n (also_table ys xs (agree_back xs ys A) T));
+      stores = λ T. subst (λ (t : Table sheet). Stores (image_of_table t) old b other) (says_same xs ys A T.valid) (R.stores (also_table xs ys A T));
+    }
+
+pub opening_reads_no_word : OpeningReadsNoWord
+opening_reads_no_word cells numbers xs ys xs' ys' a b ok h k A B =
+    let M = A.makes cells numbers ok refl in
+    let N = B.makes cells numbers ok refl in
+    made_alike (fresh sheet (start_of cells numbers)) xs ys xs' ys' a b (M.answer h) (N.answer k) (M.after h) (N.after k)

@@ -9,6 +9,7 @@ use Rattle.sheet.specs.Answer.{meaning}
 use Rattle.sheet.specs.declared.Answer.{Answer}
 use Rattle.sheet.specs.declared.Answer.TheVariants.{Length}
 use Rattle.table.specs.Table.{need, reading, IsTable}
+use Rattle.table.specs.Claims.{Agree, MadeAlike}
 use Rattle.coding.specs.Image.{image_of, Allowed, NotImage}
 use Rattle.image.specs.Promise.{image_of_table, Written, Opened}
 
@@ -74,3 +75,12 @@ OneWriting = (xs old new other : List ℕ) (a b : Answer) → Written xs old a n
 
 abbrev pub OneOpening : Type 0
 OneOpening = (bytes xs ys zs : List ℕ) (a b : Answer) → Opened bytes xs a ys → Opened bytes xs b zs → (a ≡ b) × (ys ≡ zs)
+
+-- "Bytes past the table's need stay unread", and so does every word that is not in use: writing answers and writes the same for slices that agree on them.
+abbrev pub WritingReadsWordsInUse : Type 0
+WritingReadsWordsInUse = (xs ys old new other : List ℕ) (a b : Answer) → Agree xs ys → Written xs old a new → Written ys old b other → (a ≡ b) × (new ≡ other)
+
+-- Opening reads no word of the slice where it makes a table, and leaves alone those that its table does not use.
+abbrev pub OpeningReadsNoWord : Type 0
+OpeningReadsNoWord = (cells : List Cell) (numbers xs ys xs' ys' : List ℕ) (a b : Answer) → Allowed cells numbers → need (length numbers) ≤ length xs → need (length numbers) ≤ length ys
+    → Opened (image_of cells numbers) xs a xs' → Opened (image_of cells numbers) ys b ys' → MadeAlike xs xs' ys' a b
