@@ -6,3 +6,4 @@ pub mod Updates
 pub mod Sound
 pub mod Complete
 pub mod Exactly
+pub mod Theorems
