@@ -12,6 +12,7 @@ use Rattle.protocol.specs.declared.Refusal.{Refusal}
 use Rattle.protocol.specs.History.{Every, table_after, history_after, mine}
 use Rattle.protocol.specs.Claims.{Explained, Onward, waiting_in}
 use Rattle.protocol.specs.Claims as Claims
+use Rattle.protocol.proofs.Run.{read_same, confirmed_same}
 use Rattle.sheet.specs.Changes.{idle_below}
 use Rattle.sheet.specs.Sheet.{sheet}
 use Rattle.sheet.specs.Answer.{meaning}
@@ -23,10 +24,10 @@ use Rattle.sheet.proofs.Theorem as Sheet
 use Rattle.words.proofs.Places.{lt_or_ge}
 use Rattle.table.specs.Promise.{Stepped}
 use Rattle.table.specs.Table.{IsTable, reading}
-use Rattle.table.proofs.Once.{became_same}
+use Rattle.table.proofs.Once.{became_same, either_way}
 use Rattle.image.specs.Promise.{Written, image_of_table}
 use Rattle.desk.specs.Calls.{Call, Called, Made, Calls, Renews, anew, start, update, block, read, confirmed, push, send, ask, give_up, receive, pull, accept, serverdrop, batch, crash, cut, write_image, open_image}
-use Rattle.desk.specs.Demand3.{step_of_call, steps_of, history_of, read_by, refusal_number, Next, reconnect, Reached, Demand3OverCalls, EachCall}
+use Rattle.desk.specs.Demand3.{step_of_call, steps_of, history_of, read_by, refusal_number, Next, reconnect, Reached, Demand3OverCalls, EachCall, LookingLeaves}
 use Rattle.desk.proofs.Never1.{step_never_1, length_never_1, short_never_1}
 use Rattle.desk.proofs.Reaches.{start_stays, opening_stays, AllowedStart, At, is_table, called_steps, begun_at}
 
@@ -197,3 +198,13 @@ pub each_call : EachCall
 each_call b ms ns m zs R =
     let p = split_calls ms (m ∷ ns) R.first zs R.calls in
     (p.0, p.2.0, record { first = R.first; begun = R.begun; calls = p.1; goes_on = every_first (λ m. Renews m → ⊥) ms (m ∷ ns) R.goes_on }, p.2.1, p.2.2)
+
+-- a step that leaves every table leaves every word
+leaves : (s : Step sheet) → ((t : Table sheet) → (step sheet s t).table ≡ t) → (xs ys : List ℕ) (a : Answer) → Stepped (step sheet s) xs a ys → ys ≡ xs
+leaves s same xs ys a S = (either_way (IsTable xs) a a ys xs (λ T. (refl, became_same xs ys _ T (S.after T) (same (reading xs)))) (λ n. (refl, (S.no_table n).untouched))).1
+
+pub looking_leaves : LookingLeaves
+looking_leaves d c xs ys a = (
+  leaves (machine.read d c) (read_same sheet d c) xs ys a,
+  leaves (machine.confirmed d) (confirmed_same sheet d) xs ys a,
+)

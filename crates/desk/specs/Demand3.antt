@@ -12,6 +12,7 @@ use Rattle.sheet.specs.Answer.{meaning}
 use Rattle.sheet.specs.declared.Answer.{Answer}
 use Rattle.sheet.specs.declared.Answer.TheVariants.{Done, Value, Yes, No, Moved, Length, Refused, RefusedAt}
 use Rattle.device.specs.Named.{update_of}
+use Rattle.table.specs.Promise.{Stepped}
 use Rattle.table.specs.Table.{reading, IsTable}
 use Rattle.block.specs.Block.{updates_in}
 use Rattle.desk.specs.Calls.{Call, Called, Made, Calls, Renews, Begun, Run, anew, start, update, block, read, confirmed, push, send, ask, give_up, receive, pull, accept, serverdrop, batch, crash, cut, write_image, open_image}
@@ -115,3 +116,8 @@ EachCall = (b : Start sheet) (ms ns : List Made) (m : Made) (zs : List ℕ) → 
 -- Every start and every opening that is done begins such a run, so each list of calls falls into runs.
 abbrev pub AlwaysBegins : Type 0
 AlwaysBegins = (m : Made) (xs ys : List ℕ) → Called m.call xs m.answer ys → Renews m → (b : Start sheet) × Begun b ys
+
+-- Read and confirmed, of which the calls lend the words only to be read, leave every word as it is: no outcome of the machine's step has others.
+abbrev pub LookingLeaves : Type 0
+LookingLeaves = (d c : ℕ) (xs ys : List ℕ) (a : Answer)
+    → (Stepped (step sheet (machine.read d c)) xs a ys → ys ≡ xs) × (Stepped (step sheet (machine.confirmed d)) xs a ys → ys ≡ xs)
