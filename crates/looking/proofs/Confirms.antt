@@ -11,7 +11,7 @@ use Rattle.cells.specs.declared.Change.{Change}
 use Rattle.cells.specs.declared.Change.TheVariants.{Nothing}
 use Rattle.protocol.specs.Machine.{choose, tell, says_yes, says_no, confirmed_at}
 use Rattle.sheet.specs.Changes.{is_nothing, idle_below}
-use Rattle.sheet.specs.Laws.{idle_at}
+use Rattle.sheet.proofs.Laws.{idle_at}
 use Rattle.sheet.specs.Sheet.{sheet}
 use Rattle.sheet.specs.declared.Answer.TheVariants.{Yes, No}
 use Rattle.words.specs.Layout.{CHANGE, ROUND, COVERED, PENDING_LENGTH, TRANSACTION, PENDING}

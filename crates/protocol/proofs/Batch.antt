@@ -10,7 +10,7 @@ use native.Mathlib.Omega.{arith}
 use lib.Dec.{T}
 use lib.ListN.{length, take, drop, length-append, take-append-drop}
 use lib.Seq.{take-nil, drop-nil}
-use Rattle.protocol.specs.Model.{Model}
+use Rattle.protocol.specs.Model.{Model, Laws}
 use Rattle.protocol.specs.Machine.{choose, given, enqueue, is_live, Round, Item, prefix, segment, Device, above, join_item, last_number, with_link}
 use Rattle.protocol.specs.History.{Push, Past, places}
 use Rattle.protocol.proofs.Basics.{above_above}
@@ -132,12 +132,12 @@ module _ (M : Model) where
 
   -- the segment is put on the connection
   module _ (b : Delta) (ms : ℕ → Option ℕ) where
-    pub told_keeps : (g : Shared M) (at at' : ℕ) (x : Device M) (h : Past M) (y : Bool)
+    pub told_keeps : Laws M → (g : Shared M) (at at' : ℕ) (x : Device M) (h : Past M) (y : Bool)
         → at ≤ g.top → Leads M g at g.top (segment b ms)
         → (T y → T (is_live x.link.connection)) → (T (is_live x.link.connection) → at' ≡ choose y g.top at)
         → DeviceInvariant M g at x h
         → DeviceInvariant M g at' (with_link M x record { channel = x.link.channel; request = x.link.request; connection = x.link.connection; waiting = x.link.waiting; items = choose y (enqueue (join_item M) x.link.items (segment b ms)) x.link.items }) (places M h.pulled h.reach (choose y (enqueue (λ l m. m) h.sent g.top) h.sent) h)
-    told_keeps g at at' x h y l k f e v =
+    told_keeps L g at at' x h y l k f e v =
         record {
           last_is = v.last_is;
           edits_are = v.edits_are;
@@ -156,7 +156,7 @@ module _ (M : Model) where
             → Chain M g (Stop M g x h.made) h.reach (choose y (enqueue (join_item M) x.link.items (segment b ms)) x.link.items) (choose y (enqueue (λ l m. m) h.sent g.top) h.sent)
         queued false f = v.queue
         queued true f =
-            chain_enqueue M g (Stop M g x h.made) h.reach x.link.items h.sent (segment b ms) g.top v.queue
+            chain_enqueue M g (Stop M g x h.made) L h.reach x.link.items h.sent (segment b ms) g.top v.queue
             (subst (λ (p : ℕ). p ≤ g.top) (sym (v.live_end (f tt))) l)
             (subst (λ (p : ℕ). Leads M g p g.top (segment b ms)) (sym (v.live_end (f tt))) k)
             (le_refl g.top, v.top_own)

@@ -10,7 +10,7 @@ use native.Mathlib.Omega.{arith}
 use lib.Dec.{T}
 use lib.ListN.{length, get_or, drop}
 use Rattle.protocol.specs.declared.Refusal.TheVariants.{NoChannel, NothingToDrop, NoRequest, NoConnection, Held}
-use Rattle.protocol.specs.Model.{Model}
+use Rattle.protocol.specs.Model.{Model, Laws}
 use Rattle.protocol.specs.Machine.{choose, given, is_off, is_held, is_live, Channel, off, asked, live, Round, Item, prefix, segment, Device, Link, above, beyond, gives, sheet_after, take_first, connection_held, ask_at, drop_at, receive_at, pull_at, accept_at, accept_with, serverdrop_at, with_link, renewed, cut_off}
 use Rattle.protocol.specs.History.{Push, Past, places}
 use Rattle.protocol.proofs.Basics.{twice_not, above_above, length_above}
@@ -86,12 +86,12 @@ module _ (M : Model) where
         (subst (λ (ch : Channel). Line M g (untaken M g x) ch false live x.link.waiting (x.link.items ++ (prefix s ns ∷ []))) (sym f.1)
         (inr (subst (λ (is : List (Item M)). PrefixFirst M g (is ++ (prefix s ns ∷ []))) (sym f.0) (en, tt), f.2, refl, tt)))))
 
-    first_keeps : (is : List (Item M)) (qs : List ℕ) → Chain M g (Stop M g x h.made) h.reach is qs → Line M g (untaken M g x) x.link.channel x.link.request x.link.connection x.link.waiting is
+    first_keeps : Laws M → (is : List (Item M)) (qs : List ℕ) → Chain M g (Stop M g x h.made) h.reach is qs → Line M g (untaken M g x) x.link.channel x.link.request x.link.connection x.link.waiting is
         → (T (is_live x.link.connection) → end_of h.reach qs ≡ at)
         → Kept M (λ y. DeviceInvariant M g at y (places M h.pulled (get_or qs 0 h.reach) (drop 1 qs) h)) (take_first M g.who is x)
-    first_keeps [] qs c l e = tt
-    first_keeps (i ∷ is) [] c l e = absurd c
-    first_keeps (prefix s ns ∷ is) (q ∷ qs) c l e =
+    first_keeps L [] qs c l e = tt
+    first_keeps L (i ∷ is) [] c l e = absurd c
+    first_keeps L (prefix s ns ∷ is) (q ∷ qs) c l e =
         record {
           last_is = v.last_is;
           edits_are = v.edits_are;
@@ -107,14 +107,14 @@ module _ (M : Model) where
               (f.1, ap (λ (k : ℕ). above M k x.pending) f.0, f.2, f.3);
           few = v.few;
         }
-    first_keeps (segment b ms ∷ is) (q ∷ qs) c l e =
+    first_keeps L (segment b ms ∷ is) (q ∷ qs) c l e =
         record {
           last_is = v.last_is;
           edits_are = v.edits_are;
           known_is = v.known_is;
           known_stop = v.known_stop;
           known_all = v.known_all;
-          got = got_buffer M g (Stop M g x h.made) h.pulled x.received h.reach q (segment b ms) v.got c.0 c.1 c.2;
+          got = got_buffer M g (Stop M g x h.made) L h.pulled x.received h.reach q (segment b ms) v.got c.0 c.1 c.2;
           queue = c.3;
           top_own = v.top_own;
           live_end = e;
@@ -122,11 +122,11 @@ module _ (M : Model) where
           few = v.few;
         }
 
-    pub receive_keeps : Kept M (λ y. DeviceInvariant M g at y (places M h.pulled (get_or h.sent 0 h.reach) (drop 1 h.sent) h)) (receive_at M g.who x)
+    pub receive_keeps : Laws M → Kept M (λ y. DeviceInvariant M g at y (places M h.pulled (get_or h.sent 0 h.reach) (drop 1 h.sent) h)) (receive_at M g.who x)
     unfolding receive_at
-    receive_keeps =
+    receive_keeps L =
         unless_kept M (λ y. DeviceInvariant M g at y (places M h.pulled (get_or h.sent 0 h.reach) (drop 1 h.sent) h)) (is_off x.link.channel) NoChannel _
-        (λ t. first_keeps x.link.items h.sent v.queue v.line v.live_end)
+        (λ t. first_keeps L x.link.items h.sent v.queue v.line v.live_end)
 
     pulled_sheet : (i : Option (Item M)) → Got M g (Stop M g x h.made) h.pulled i h.reach → sheet_after M i x.known ≡ g.sheets h.reach
     pulled_sheet none e = v.known_is ∙ ap g.sheets (sym e)

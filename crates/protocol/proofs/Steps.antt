@@ -9,7 +9,7 @@ use lib.Dec.{T, leb, eqb, nleb→lt}
 use lib.ListN.{length, length-append}
 use Rattle.protocol.specs.declared.Refusal.{Refusal}
 use Rattle.protocol.specs.declared.Refusal.TheVariants.{NotEstablished, NoPush, PendingFull, PushesSpent}
-use Rattle.protocol.specs.Model.{Model}
+use Rattle.protocol.specs.Model.{Model, Laws}
 use Rattle.protocol.specs.Machine.{is_established, Round, Device, Answer, refused, refused_at, Local, fine, tell, unless, unless_refused, above, view, joined, update_at, block_at, push_at, round_of, send_at, sent_from, full}
 use Rattle.protocol.specs.History.{Push, Past, after_edits, after_push}
 use Rattle.protocol.specs.Claims.{join_updates}
@@ -20,7 +20,7 @@ use Rattle.protocol.proofs.Items.{chain_same, got_same}
 use Rattle.protocol.proofs.Lines.{line_sent}
 
 module _ (M : Model) where
-  open M use {State, Delta, Update, join, empty, one, refuses, apply_one}
+  open M use {State, Delta, Update, join, empty, one, refuses}
 
   abbrev pub Kept : (Device M → Type 0) → Local M → Type 0
   Kept P (fine y) = P y
@@ -35,13 +35,13 @@ module _ (M : Model) where
   unless_refused_kept P (some a) f r k = tt
 
   -- the open edits do what their joined change does
-  represents_updates : (b : Delta) (us vs : List Update) → Represents M b us → Represents M (join_updates M b vs) (us ++ vs)
-  represents_updates b us [] f = subst (Represents M b) (sym (append-nil us)) f
-  represents_updates b us (u ∷ vs) f =
-      subst (Represents M (join_updates M (join b (one u)) vs)) (append_assoc us (u ∷ []) vs) (represents_updates (join b (one u)) (us ++ (u ∷ [])) vs (represents_join M b (one u) us (u ∷ []) f (apply_one u)))
+  represents_updates : Laws M → (b : Delta) (us vs : List Update) → Represents M b us → Represents M (join_updates M b vs) (us ++ vs)
+  represents_updates L b us [] f = subst (Represents M b) (sym (append-nil us)) f
+  represents_updates L b us (u ∷ vs) f =
+      subst (Represents M (join_updates M (join b (one u)) vs)) (append_assoc us (u ∷ []) vs) (represents_updates L (join b (one u)) (us ++ (u ∷ [])) vs (represents_join M L b (one u) us (u ∷ []) f (L.apply_one u)))
 
-  pub represents_edits : (g : Shared M) (b : Delta) (us : List Update) → Edits M g b us → Represents M b us
-  represents_edits g b us e = subst (λ (c : Delta). Represents M c us) (sym e.0) (represents_updates empty [] us (represents_empty M))
+  pub represents_edits : Laws M → (g : Shared M) (b : Delta) (us : List Update) → Edits M g b us → Represents M b us
+  represents_edits L g b us e = subst (λ (c : Delta). Represents M c us) (sym e.0) (represents_updates L empty [] us (represents_empty M L))
 
   updates_snoc : (b : Delta) (us : List Update) (u : Update) → join_updates M b (us ++ (u ∷ [])) ≡ join (join_updates M b us) (one u)
   updates_snoc b [] u = refl
@@ -85,28 +85,28 @@ module _ (M : Model) where
 
   module _ (g : Shared M) (at : ℕ) (x : Device M) (h : Past M) (v : DeviceInvariant M g at x h) where
     -- a device whose pushes and what it holds of them have changed: each place is carried over
-    own_push : (q : ℕ) → Own M g x h.made q
+    own_push : Laws M → (q : ℕ) → Own M g x h.made q
         → (ps : List (Push M)) × (h.made ++ (h.edits ∷ []) ≡ g.own q ++ ps) × Holds M (number_there M g q) ps (above M (number_there M g q) x.pending) (join x.buffered x.transaction) (suc x.covered)
-    own_push q o = (
+    own_push L q o = (
       o.0 ++ (h.edits ∷ []),
       ap (λ (l : List (Push M)). l ++ (h.edits ∷ [])) o.1 ∙ append_assoc (g.own q) o.0 (h.edits ∷ []),
-      holds_push M (number_there M g q) o.0 (above M (number_there M g q) x.pending) x.buffered x.transaction x.covered h.edits o.2 (represents_edits g x.transaction h.edits v.edits_are),
+      holds_push M L (number_there M g q) o.0 (above M (number_there M g q) x.pending) x.buffered x.transaction x.covered h.edits o.2 (represents_edits L g x.transaction h.edits v.edits_are),
     )
 
-    pub push_keeps : Kept (λ y. DeviceInvariant M g at y (after_push M h)) (push_at M x)
+    pub push_keeps : Laws M → Kept (λ y. DeviceInvariant M g at y (after_push M h)) (push_at M x)
     unfolding push_at
-    push_keeps =
+    push_keeps L =
         unless_kept (λ y. DeviceInvariant M g at y (after_push M h)) (leb 1000000 x.last) PushesSpent _
         (λ t.
         record {
           last_is = omega (arith, v.last_is, length-append h.made (h.edits ∷ []));
           edits_are = (refl, tt);
           known_is = v.known_is;
-          known_stop = (v.known_stop.0, own_push h.pulled v.known_stop.1);
+          known_stop = (v.known_stop.0, own_push L h.pulled v.known_stop.1);
           known_all = v.known_all;
-          got = got_same M g _ _ (λ q s. (s.0, own_push q s.1)) h.pulled x.received h.reach v.got;
-          queue = chain_same M g _ _ (λ q s. (s.0, own_push q s.1)) h.reach x.link.items h.sent v.queue;
-          top_own = own_push g.top v.top_own;
+          got = got_same M g _ _ (λ q s. (s.0, own_push L q s.1)) h.pulled x.received h.reach v.got;
+          queue = chain_same M g _ _ (λ q s. (s.0, own_push L q s.1)) h.reach x.link.items h.sent v.queue;
+          top_own = own_push L g.top v.top_own;
           live_end = v.live_end;
           line = v.line;
           few = v.few;
@@ -122,26 +122,26 @@ module _ (M : Model) where
     above_sent : (q : ℕ) → number_there M g q < x.last → above M (number_there M g q) (x.pending ++ (round_of M x ∷ [])) ≡ above M (number_there M g q) x.pending ++ (round_of M x ∷ [])
     above_sent q l = above_snoc M (number_there M g q) x.pending (round_of M x) l
 
-    own_send : 0 < x.covered → (q : ℕ) → Own M g x h.made q
+    own_send : Laws M → 0 < x.covered → (q : ℕ) → Own M g x h.made q
         → (ps : List (Push M)) × (h.made ≡ g.own q ++ ps) × Holds M (number_there M g q) ps (above M (number_there M g q) (x.pending ++ (round_of M x ∷ []))) empty 0
-    own_send p q o = (
+    own_send L p q o = (
       o.0,
       o.1,
       subst (λ (rs : List (Round M)). Holds M (number_there M g q) o.0 rs empty 0) (sym (above_sent q (below_last q p o).0))
-          (holds_send M (number_there M g q) o.0 (above M (number_there M g q) x.pending) x.buffered x.covered x.last o.2 p (below_last q p o).1),
+          (holds_send M L (number_there M g q) o.0 (above M (number_there M g q) x.pending) x.buffered x.covered x.last o.2 p (below_last q p o).1),
     )
 
-    sending : 0 < x.covered → T (is_established x.link.channel) → length x.pending < 8 → DeviceInvariant M g at (sent_from M x) h
-    sending p e q =
+    sending : Laws M → 0 < x.covered → T (is_established x.link.channel) → length x.pending < 8 → DeviceInvariant M g at (sent_from M x) h
+    sending L p e q =
         record {
           last_is = v.last_is;
           edits_are = v.edits_are;
           known_is = v.known_is;
-          known_stop = (v.known_stop.0, own_send p h.pulled v.known_stop.1);
+          known_stop = (v.known_stop.0, own_send L p h.pulled v.known_stop.1);
           known_all = above_sent h.pulled (below_last h.pulled p v.known_stop.1).0 ∙ ap (λ (rs : List (Round M)). rs ++ (round_of M x ∷ [])) v.known_all;
-          got = got_same M g _ _ (λ q s. (s.0, own_send p q s.1)) h.pulled x.received h.reach v.got;
-          queue = chain_same M g _ _ (λ q s. (s.0, own_send p q s.1)) h.reach x.link.items h.sent v.queue;
-          top_own = own_send p g.top v.top_own;
+          got = got_same M g _ _ (λ q s. (s.0, own_send L p q s.1)) h.pulled x.received h.reach v.got;
+          queue = chain_same M g _ _ (λ q s. (s.0, own_send L p q s.1)) h.reach x.link.items h.sent v.queue;
+          top_own = own_send L p g.top v.top_own;
           live_end = v.live_end;
           line =
               subst (λ (rs : List (Round M)). Line M g rs x.link.channel x.link.request x.link.connection (x.link.waiting ++ (round_of M x ∷ [])) x.link.items)
@@ -150,12 +150,12 @@ module _ (M : Model) where
           few = omega (arith, q, length-append x.pending (round_of M x ∷ []));
         }
 
-    pub send_keeps : Kept (λ y. DeviceInvariant M g at y h) (send_at M x)
+    pub send_keeps : Laws M → Kept (λ y. DeviceInvariant M g at y h) (send_at M x)
     unfolding send_at
-    send_keeps =
+    send_keeps L =
         unless_kept (λ y. DeviceInvariant M g at y h) (not (is_established x.link.channel)) NotEstablished _
         (λ t.
         unless_kept (λ y. DeviceInvariant M g at y h) (eqb x.covered 0) NoPush _
         (λ u.
         unless_kept (λ y. DeviceInvariant M g at y h) (full M x) PendingFull _
-        (λ w. sending (positive x.covered u) (twice_not (is_established x.link.channel) t) (nleb→lt 8 (length x.pending) w))))
+        (λ w. sending L (positive x.covered u) (twice_not (is_established x.link.channel) t) (nleb→lt 8 (length x.pending) w))))

@@ -15,6 +15,7 @@ use Rattle.cells.specs.declared.Cell.TheVariants.{Blank}
 use Rattle.cells.specs.declared.Change.TheVariants.{Nothing}
 use Rattle.protocol.specs.Machine.{Table, Device, Item, given, fresh_device, last_number, rounds_at, all_rounds, apply_rounds, join_rounds, moved_by, the_segment, batched, after_crash}
 use Rattle.protocol.proofs.Basics.{apply_join_rounds}
+use Rattle.sheet.proofs.Laws.{sheet_laws}
 use Rattle.sheet.specs.Sheet.{sheet}
 use Rattle.words.specs.Layout.{CELL, CHANGE, ITEM_KIND, ITEM_NUMBERS, ITEM_PLACES, TAKEN, SHEET, DEVICES, CELLS, RECORD, RECORDS}
 use Rattle.words.specs.Place.{cell_place, change_place, cell_at, change_at, Across, Filled, Kept, Valid}
@@ -138,7 +139,7 @@ module _ (xs counts : List ℕ) (devices cells : ℕ) (T : TableReady xs devices
         old = unfold reading in (ap (λ (c : ℕ). sheet_at c xs SHEET) T.cells_are)
 
         is : sheet_at cells mid SHEET ≡ after
-        is = unfold after in (applied_across cells xs mid ss SHEET ITEM_PLACES F ∙ (λ i c. applied (old i c) (changes_are i c)) ∙ apply_join_rounds sheet (λ c. Nothing) (all_rounds sheet (reading xs) counts (reading xs).devices) (reading xs).sheet)
+        is = unfold after in (applied_across cells xs mid ss SHEET ITEM_PLACES F ∙ (λ i c. applied (old i c) (changes_are i c)) ∙ apply_join_rounds sheet sheet_laws (λ c. Nothing) (all_rounds sheet (reading xs) counts (reading xs).devices) (reading xs).sheet)
 
     -- ys has every record settled
     module _ (reach : ℕ) (crash : Bool) (ys : List ℕ) (l : length ys ≡ length mid) (E : Each (λ d. Settled devices cells d (get_or counts d 0) (ltb d reach) crash ss) mid ys devices) where

@@ -17,21 +17,22 @@ use Rattle.sheet.specs.Changes.{idle_below, refuses_update}
 use Rattle.cells.specs.Stored.{update_finite}
 use Rattle.sheet.specs.Sheet.{sheet}
 use Rattle.sheet.specs.Claims.{ConfirmedNothingOpen, UpdateRefusedWhen, SetIsRead, update_of}
+use Rattle.sheet.proofs.Laws.{sheet_laws}
 use Rattle.sheet.proofs.Updates.{no_cell, not_finite, not_refused, never_device, cell≢device, finite≢device}
 use Rattle.sheet.proofs.OpenEdits.{reads_joined, view_updated}
 use Rattle.sheet.proofs.NeverLost.{nothing_lost}
 
 pub demand_3 : Demand3 sheet
-demand_3 = Protocol.demand_3 sheet
+demand_3 = Protocol.demand_3 sheet sheet_laws
 
 pub pushes_numbered : PushesNumbered sheet
-pushes_numbered = Protocol.pushes_numbered sheet
+pushes_numbered = Protocol.pushes_numbered sheet sheet_laws
 
 pub demand_3_onward : Demand3Onward sheet
-demand_3_onward = Protocol.demand_3_onward sheet
+demand_3_onward = Protocol.demand_3_onward sheet sheet_laws
 
 pub reconnected : Reconnected sheet
-reconnected = Protocol.reconnected sheet
+reconnected = Protocol.reconnected sheet sheet_laws
 
 pub refused_exactly_when : RefusedExactlyWhen sheet
 refused_exactly_when = Protocol.refused_exactly_when sheet
@@ -43,7 +44,7 @@ pub moved_is_shrinking : MovedShrinks sheet
 moved_is_shrinking = Protocol.moved_is_shrinking sheet
 
 pub reached_fits : ReachedFits sheet
-reached_fits = Protocol.reached_fits sheet
+reached_fits = Protocol.reached_fits sheet sheet_laws
 
 pub confirmed_nothing_open : ConfirmedNothingOpen
 confirmed_nothing_open b steps d l e =
