@@ -5,7 +5,6 @@
 #![tactic(auto)]
 
 ghost use Rattle.std.specs.Prelude.{◌≤◌, ◌<◌, length};
-ghost use Rattle.std.specs.Io.{ReadsAtMost};
 
 use cbor::token::{Read, Token};
 use cells::Cell;
@@ -13,8 +12,8 @@ use coding::cell::CellRead;
 use image::opening::open_image;
 use image::writing::write_image;
 use sheet::Answer;
+use showing::read_full;
 use std::io;
-use std::io::Read as _;
 use words::layout::{CELLS, DEVICES};
 
 fn word(rt: &impl Print, name: &[u8], n: u64) -> io::Result<()> {
@@ -178,21 +177,6 @@ fn lines(rt: &impl Print, s: &[u8]) -> io::Result<()> {
         left -= 1;
     }
     Ok(())
-}
-
-// Reads until buf is full or the input ends, and returns how many bytes it put at the start of buf.
-fn read_full(input: &mut impl io::Read, buf: &mut [u8]) -> io::Result<usize>
-    ensures { ReadsAtMost result buf.new }
-{
-    let mut done = 0;
-    while done < buf.len() {
-        let n = input.read(&mut buf[done..])?;
-        if n == 0 {
-            break;
-        }
-        done += n;
-    }
-    Ok(done)
 }
 
 fn main(rt: HostRuntime) -> io::Result<()> {

@@ -9,6 +9,7 @@ use lib.ListN.{length, take}
 use Rattle.protocol.specs.Machine.{Start, Step, Table, step, run, fresh, batched_unless0, after_crash}
 use Rattle.protocol.specs.Machine as machine
 use Rattle.protocol.specs.declared.Refusal.{Refusal}
+use Rattle.protocol.specs.declared.Refusal.TheVariants.{NoTable}
 use Rattle.protocol.specs.History.{Every, table_after, history_after, mine}
 use Rattle.protocol.specs.Claims.{Explained, Onward, waiting_in}
 use Rattle.protocol.specs.Claims as Claims
@@ -27,7 +28,7 @@ use Rattle.table.specs.Table.{IsTable, reading}
 use Rattle.table.proofs.Once.{became_same, either_way}
 use Rattle.image.specs.Promise.{Written, image_of_table}
 use Rattle.desk.specs.Calls.{Call, Called, Made, Calls, Renews, anew, start, update, block, read, confirmed, push, send, ask, give_up, receive, pull, accept, serverdrop, batch, crash, cut, write_image, open_image}
-use Rattle.desk.specs.Demand3.{step_of_call, steps_of, history_of, read_by, refusal_number, Next, reconnect, Reached, Demand3OverCalls, EachCall, LookingLeaves}
+use Rattle.desk.specs.Demand3.{step_of_call, steps_of, history_of, read_by, refusal_number, RefusalsByNumber, Next, reconnect, Reached, Demand3OverCalls, EachCall, LookingLeaves}
 use Rattle.desk.proofs.Never1.{step_never_1, length_never_1, short_never_1}
 use Rattle.desk.proofs.Reaches.{start_stays, opening_stays, AllowedStart, At, is_table, called_steps, begun_at}
 
@@ -41,6 +42,25 @@ refusal_is (Moved k) h = absurd (omega arith)
 refusal_is (Length k) h = absurd (omega arith)
 refusal_is (Refused r) h = (r, inl refl)
 refusal_is (RefusedAt r k) h = (r, inr (k, refl))
+
+-- A call of a step answers with the number of the machine's refusal.
+pub refusals_by_number : RefusalsByNumber
+refusals_by_number s xs ys a S = record {
+  no_table = λ n. ap refusal_number (meaning_one a (Refused NoTable) (S.no_table n).number);
+  refusal = λ T r e. ap refusal_number (meaning_one a (Refused r) (S.answer T ∙ e));
+  refusal_at = λ T r k e. ap refusal_number (meaning_one a (RefusedAt r k) (S.answer T ∙ e));
+  no_refusal = λ T f g. go a (S.answer T) f g;
+}
+  where
+    go : (b : Answer) → meaning b ≡ (s (reading xs)).answer → ((r : Refusal) → (s (reading xs)).answer ≡ machine.refused r → ⊥) → ((r : Refusal) (k : ℕ) → (s (reading xs)).answer ≡ machine.refused_at r k → ⊥) → refusal_number b ≡ 0
+    go Done e f g = refl
+    go (Value c) e f g = refl
+    go Yes e f g = refl
+    go No e f g = refl
+    go (Moved k) e f g = refl
+    go (Length k) e f g = refl
+    go (Refused r) e f g = absurd (f r (sym e))
+    go (RefusedAt r k) e f g = absurd (g r k (sym e))
 
 -- The next call on words that are a table.
 module _ (xs : List ℕ) (T : IsTable xs) (a : Answer) (ys : List ℕ) where

@@ -1,7 +1,8 @@
 -- "demand 3 over lists", of the calls: what every list of them comes to, and what the next call answers. Assumes nothing.
 use Rattle.std.specs.Prelude.{◌≡◌, true, false, List, [], ◌∷◌, ◌++◌, map, ℕ, ◌+◌, ◌<◌, length, take, drop, replicate}
 use Rattle.cells.specs.declared.Cell.{Cell}
-use Rattle.protocol.specs.Machine.{Start, Step, Table, step, batched_unless0, after_crash}
+use Rattle.protocol.specs.declared.Refusal.{Refusal}
+use Rattle.protocol.specs.Machine.{Start, Step, Table, Result, step, batched_unless0, after_crash}
 use Rattle.protocol.specs.Machine as machine
 use Rattle.protocol.specs.History.{Every, History, apply_all, flat, mine, table_after, history_after}
 use Rattle.protocol.specs.Claims.{Explained, Onward, sheet_at, waiting_in}
@@ -63,6 +64,17 @@ refusal_number (Moved k) = 0
 refusal_number (Length k) = 0
 refusal_number (Refused r) = number_of r
 refusal_number (RefusedAt r k) = number_of r
+
+-- "A refusal returns its number": 1 where the contents are no table; else document 01's number of the machine's refusal, and 0 where it gives none.
+pub record ByNumber (s : Table sheet → Result sheet) (xs : List ℕ) (a : Answer) : Type 0 where
+  pub no_table : (IsTable xs → ⊥) → refusal_number a ≡ 1
+  pub refusal : IsTable xs → (r : Refusal) → (s (reading xs)).answer ≡ machine.refused r → refusal_number a ≡ number_of r
+  pub refusal_at : IsTable xs → (r : Refusal) (k : ℕ) → (s (reading xs)).answer ≡ machine.refused_at r k → refusal_number a ≡ number_of r
+  pub no_refusal : IsTable xs → ((r : Refusal) → (s (reading xs)).answer ≡ machine.refused r → ⊥)
+      → ((r : Refusal) (k : ℕ) → (s (reading xs)).answer ≡ machine.refused_at r k → ⊥) → refusal_number a ≡ 0
+
+abbrev pub RefusalsByNumber : Type 0
+RefusalsByNumber = (s : Table sheet → Result sheet) (xs ys : List ℕ) (a : Answer) → Stepped s xs a ys → ByNumber s xs a
 
 -- What a call on the words xs, which say the table t, answers, and what it leaves where it is refused.
 pub record Next (t : Table sheet) (c : Call) (xs : List ℕ) (a : Answer) (ys : List ℕ) : Type 0 where

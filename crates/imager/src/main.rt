@@ -3,32 +3,15 @@
 
 #![tactic(auto)]
 
-ghost use Rattle.std.specs.Io.{ReadsAtMost};
-
 use answers::answer::put_answer_line;
 use image::writing::LONGEST;
 use imaging::compose::compose;
 use imaging::show::show;
 use sheet::Answer;
+use showing::read_full;
 use std::env::Env;
 use std::io;
-use std::io::Read;
 use text::field::same;
-
-// Reads until buf is full or the input ends, and returns how many bytes it put at the start of buf.
-fn read_full(input: &mut impl Read, buf: &mut [u8]) -> io::Result<usize>
-    ensures { ReadsAtMost result buf.new }
-{
-    let mut done = 0;
-    while done < buf.len() {
-        let n = input.read(&mut buf[done..])?;
-        if n == 0 {
-            break;
-        }
-        done += n;
-    }
-    Ok(done)
-}
 
 // More bytes than the buffer holds are read up to there, and are no image: none has so many.
 fn read_image(rt: &(impl Input + Print)) -> io::Result<()> {

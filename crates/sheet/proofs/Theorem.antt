@@ -16,29 +16,12 @@ use Rattle.protocol.proofs.Theorem as Protocol
 use Rattle.sheet.specs.Changes.{idle_below, refuses_update}
 use Rattle.cells.specs.Stored.{update_finite}
 use Rattle.sheet.specs.Sheet.{sheet}
-use Rattle.sheet.specs.Claims.{SheetLaws, ApplyOne, IdleEmpty, IdleAt, NothingStays, IdleApply, ConfirmedNothingOpen, UpdateRefusedWhen, SetIsRead, update_of}
-use Rattle.sheet.proofs.Laws as Of
+use Rattle.sheet.specs.Claims.{ConfirmedNothingOpen, UpdateRefusedWhen, SetIsRead}
+use Rattle.sheet.specs.Changes.{CellUpdate}
+use Rattle.sheet.proofs.Laws.{sheet_laws}
 use Rattle.sheet.proofs.Updates.{no_cell, not_finite, not_refused, never_device, cell≢device, finite≢device}
 use Rattle.sheet.proofs.OpenEdits.{reads_joined, view_updated}
 use Rattle.sheet.proofs.NeverLost.{nothing_lost}
-
-pub sheet_laws : SheetLaws
-sheet_laws = Of.sheet_laws
-
-pub apply_one : ApplyOne
-apply_one = Of.apply_one
-
-pub idle_empty : IdleEmpty
-idle_empty = Of.idle_empty
-
-pub idle_at : IdleAt
-idle_at = Of.idle_at
-
-pub nothing_stays : NothingStays
-nothing_stays = Of.nothing_stays
-
-pub idle_apply : IdleApply
-idle_apply = Of.idle_apply
 
 pub demand_3 : Demand3 sheet
 demand_3 = Protocol.demand_3 sheet sheet_laws
@@ -104,6 +87,6 @@ update_refused_when t d u =
 
 pub set_is_read : SetIsRead
 set_is_read t d c v l h f =
-    let u = update_of c (Update.Set v) in
+    let u : CellUpdate = record { cell = c; update = Update.Set v } in
     let n = (not_refused t.cells d (view sheet (t.device d)) u).1 (h, f) in
     record { set = ((refused_exactly_when t d).update_done u).1 (l, n); is_read = reads_joined t d u l n c h ∙ ap value (view_updated (t.device d) u) }

@@ -1,13 +1,34 @@
-// What the runs print: an answer, and the words that a call changed. Only the programs that compare runs use it.
+// What the programs read and print: a buffer of input, an answer, the words that a call changed.
 
 #![tactic(auto)]
 
-ghost use Rattle.std.specs.Prelude.{◌≡◌};
+ghost use Rattle.std.specs.Prelude.{◌≡◌, ◌<◌, IfOk, length, take};
+ghost use Rattle.std.specs.Io.KnownBytes.{Consumes, IsAtEnd};
 ghost use Rattle.showing.specs.Done.{is_done};
+ghost use Rattle.std.specs.Io.{ReadsAtMost};
 
 use answers::answer::put_answer;
 use sheet::Answer;
 use std::io;
+use std::io::Read;
+
+// Reads until buf is full or the input ends, and returns how many bytes it put at the start of buf.
+pub fn read_full<R: Read>(input: &mut R, buf: &mut [u8]) -> io::Result<usize>
+    ensures bound { ReadsAtMost result buf.new }
+    // of an input whose bytes are known, these are the next ones, and where they are fewer than there is room for, the last
+    ensures bytes { IfOk result (λ n. Consumes (R.remaining input.old) (R.remaining input.new) (take n buf.new)) }
+    ensures end { IfOk result (λ n. n < length buf.new → IsAtEnd (R.remaining input.new)) }
+{
+    let mut done = 0;
+    while done < buf.len() {
+        let n = input.read(&mut buf[done..])?;
+        if n == 0 {
+            break;
+        }
+        done += n;
+    }
+    Ok(done)
+}
 
 // Writes to standard output.
 pub fn write(rt: &impl Print, text: &[u8]) -> io::Result<()> {

@@ -1,5 +1,4 @@
--- The claims of specs/Claims.antt on the need, the words past it and the numbers of refusal, and on what a table made in a slice takes from it.
--- Assumes nothing.
+-- The claims of specs/Claims.antt on the need and the words past it, and on what a table made in a slice takes from it. Assumes nothing.
 use mathlib.Core.Path.{◌≡◌, refl, sym, ap, ◌∙◌}
 use mathlib.Core.Logic.{◌⊎◌, inl, inr, ⊎_elim}
 use mathlib.Core.List.{List}
@@ -17,7 +16,7 @@ use Rattle.words.proofs.Places.{lt_or_ge}
 use Rattle.record.proofs.Same.{in_record}
 use Rattle.table.specs.Table.{record_at, InTable}
 use Rattle.table.specs.Promise.{Became}
-use Rattle.table.specs.Claims.{number_in, AllZeroIsNone, NeedInBytes, NonePastTheNeed, RefusalsByNumber, MadeAlike, StartReadsNoWord}
+use Rattle.table.specs.Claims.{AllZeroIsNone, NeedInBytes, NonePastTheNeed, MadeAlike, StartReadsNoWord}
 use Rattle.table.proofs.Once.{table_words}
 
 pub all_zero_is_none : AllZeroIsNone
@@ -36,14 +35,6 @@ none_past_the_need xs X i h (InTable.sheet_cell l u) = let c = X.sizes.cells_to_
 none_past_the_need xs X i h (InTable.in_record d k l u q) =
     let s = in_record (get_or xs DEVICES 0) (get_or xs CELLS 0) (record_at xs d) k X.sizes.devices_to_8 X.sizes.cells_to_64 (X.records d l) u in
     omega arith
-
-pub refusals_by_number : RefusalsByNumber
-refusals_by_number s xs ys a S = record {
-  no_table = λ n. ap number_in (S.no_table n).number;
-  refusal = λ T r e. ap number_in (S.answer T ∙ e);
-  refusal_at = λ T r k e. ap number_in (S.answer T ∙ e);
-  number = λ T. ap number_in (S.answer T);
-}
 
 -- What makes a table in a slice with room takes nothing from it.
 pub made_alike : (t : Table sheet) (xs ys xs' ys' : List ℕ) (a b : Answer) → meaning a ≡ done → meaning b ≡ done → Became xs xs' t → Became ys ys' t → MadeAlike xs xs' ys' a b

@@ -1,10 +1,7 @@
--- What document 01 says of every table, its need and its words, and of every call: its number of refusal, that "no second outcome fits", and that it
--- depends on no word but those in use. Assumes nothing.
+-- What document 01 says of every table, its need and its words, and of every call: that "no second outcome fits", and that it depends on no word but
+-- those in use. Assumes nothing.
 use Rattle.std.specs.Prelude.{◌≡◌, List, ℕ, ◌*◌, ◌≤◌, length, get_or, replicate}
-use Rattle.protocol.specs.declared.Refusal.{Refusal}
-use Rattle.protocol.specs.Machine.{Table, Result, done, refused, refused_at}
-use Rattle.protocol.specs.Machine as machine
-use Rattle.protocol.specs.Refusals.{number_of}
+use Rattle.protocol.specs.Machine.{Table, Result, done}
 use Rattle.sheet.specs.Sheet.{sheet}
 use Rattle.sheet.specs.Answer.{meaning}
 use Rattle.sheet.specs.declared.Answer.{Answer}
@@ -23,30 +20,6 @@ NeedInBytes = (devices : ℕ) → 1 ≤ devices → 8 * need devices ≤ 40000 *
 -- "Bytes past the table's need stay unread": no word past it is in use, so no call depends on it and each keeps it.
 abbrev pub NonePastTheNeed : Type 0
 NonePastTheNeed = (xs : List ℕ) → ValidTable xs → (i : ℕ) → need (get_or xs DEVICES 0) ≤ i → InTable xs i → ⊥
-
--- Document 01's number of a refusal, and 0 of every other answer: of the machine's answers, and of the code's.
-abbrev pub number_in : machine.Answer sheet → ℕ
-number_in machine.done = 0
-number_in (machine.value c) = 0
-number_in machine.says_yes = 0
-number_in machine.says_no = 0
-number_in (machine.moved k) = 0
-number_in (machine.length_is k) = 0
-number_in (machine.refused r) = number_of r
-number_in (machine.refused_at r k) = number_of r
-
-abbrev pub refusal_number : Answer → ℕ
-refusal_number a = number_in (meaning a)
-
--- "A refusal returns its number": 1 where the contents are no table; else document 01's number of the machine's refusal, and 0 where it gives none.
-pub record ByNumber (s : Table sheet → Result sheet) (xs : List ℕ) (a : Answer) : Type 0 where
-  pub no_table : (IsTable xs → ⊥) → refusal_number a ≡ 1
-  pub refusal : IsTable xs → (r : Refusal) → (s (reading xs)).answer ≡ refused r → refusal_number a ≡ number_of r
-  pub refusal_at : IsTable xs → (r : Refusal) (k : ℕ) → (s (reading xs)).answer ≡ refused_at r k → refusal_number a ≡ number_of r
-  pub number : IsTable xs → refusal_number a ≡ number_in (s (reading xs)).answer
-
-abbrev pub RefusalsByNumber : Type 0
-RefusalsByNumber = (s : Table sheet → Result sheet) (xs ys : List ℕ) (a : Answer) → Stepped s xs a ys → ByNumber s xs a
 
 -- Two outcomes of one call on the same words are the same, answer and every word, on a table or not.
 abbrev pub OneOutcome : Type 0

@@ -5,12 +5,9 @@
 
 #![tactic(auto)]
 
-ghost use Rattle.std.specs.Io.{ReadsAtMost};
-
 use devices::calls::push;
-use showing::{is_done, show_answer, show_changes, write};
+use showing::{is_done, read_full, show_answer, show_changes, write};
 use std::io;
-use std::io::Read;
 use table::begin::start;
 use table::check::is_table;
 use words::layout::{RECORD, RECORDS};
@@ -207,21 +204,6 @@ fn run_all(rt: &impl Print, text: &[u8], t: &mut [u64], old: &mut [u64]) -> io::
         i += 1;
     }
     Ok(())
-}
-
-// Reads until buf is full or the input ends, and returns how many bytes it put at the start of buf.
-fn read_full(input: &mut impl Read, buf: &mut [u8]) -> io::Result<usize>
-    ensures { ReadsAtMost result buf.new }
-{
-    let mut done = 0;
-    while done < buf.len() {
-        let n = input.read(&mut buf[done..])?;
-        if n == 0 {
-            break;
-        }
-        done += n;
-    }
-    Ok(done)
 }
 
 fn main(rt: HostRuntime) -> io::Result<()> {

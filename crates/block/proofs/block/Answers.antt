@@ -1,5 +1,5 @@
 -- `block::block` meets its contract: each turn of the walk is that of Standing.antt.
-use Rattle.block.proofs.Standing.{stands_first, table, there, within, stands_next, left_less}
+use Rattle.block.proofs.Standing.{stands_first, table, there, within, stands_next, left_less, stands_last}
 use Rattle.block.proofs.block.Goals as goal
 
 pub loop-w-init : goal.loop-w-init
@@ -13,3 +13,6 @@ loop-w-smaller c = left_less _ _ _ _ _ c.loop-w.invariant c.loop-w-test.true _ _
 
 pub loop-w-preserved : goal.loop-w-preserved
 loop-w-preserved c = stands_next _ _ _ _ _ c.loop-w.invariant c.loop-w-test.true _ _ c.turn-w.ensures
+
+pub returns : goal.returns
+returns c = rw c.told.ensures (stands_last _ _ _ _ _ c.loop-w.invariant c.loop-w-test.false)
