@@ -13,11 +13,10 @@ use Rattle.protocol.specs.History.{table_after, history_after}
 use Rattle.protocol.specs.Refusals.{Answers, RefusedExactlyWhen}
 use Rattle.protocol.specs.Claims.{Demand3, PushesNumbered, Demand3Onward, Reconnected, RefusalChangesNothing, MovedShrinks, ReachedFits}
 use Rattle.protocol.proofs.Theorem as Protocol
-use Rattle.sheet.specs.Changes.{idle_below, refuses_update}
+use Rattle.sheet.specs.Changes.{CellUpdate, idle_below, refuses_update}
 use Rattle.cells.specs.Stored.{update_finite}
 use Rattle.sheet.specs.Sheet.{sheet}
 use Rattle.sheet.specs.Claims.{ConfirmedNothingOpen, UpdateRefusedWhen, SetIsRead}
-use Rattle.sheet.specs.Changes.{CellUpdate}
 use Rattle.sheet.proofs.Laws.{sheet_laws}
 use Rattle.sheet.proofs.Updates.{no_cell, not_finite, not_refused, never_device, cell≢device, finite≢device}
 use Rattle.sheet.proofs.OpenEdits.{reads_joined, view_updated}

@@ -1,4 +1,4 @@
-// What the programs read and print: a buffer of input, an answer, the words that a call changed.
+// What programs share: a buffer read full; an answer, and the words that a call changed, printed.
 
 #![tactic(auto)]
 
