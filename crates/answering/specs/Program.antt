@@ -2,14 +2,16 @@
 -- stand above each definition. Assumes nothing.
 use Rattle.std.specs.Prelude.{Bool, ◌&&◌, List, [], ◌∷◌, ◌++◌, ℕ, leb, take}
 use Rattle.std.proofs.Math.Option.{Option, none, some}
+use Rattle.std.specs.Prelude as std
 use Rattle.protocol.specs.declared.Refusal.TheVariants.{NoTable, OutsideAllowed, NoStep}
 use Rattle.protocol.specs.Machine.{Table, choose, fresh, step, done, refused}
 use Rattle.protocol.specs.Machine as machine
 use Rattle.sheet.specs.Sheet.{sheet, started}
-use Rattle.sheet.specs.Answer.{written}
 use Rattle.device.specs.Named.{update_of}
 use Rattle.table.specs.Asked.{Asked, no_step, start, machine_step}
 use Rattle.lines.specs.Lines.{lines_of}
+use Rattle.text.specs.Number.{on_some}
+use Rattle.wording.specs.declared.names.Act.{Act}
 use Rattle.steps.specs.Parse.{parse_line}
 use Rattle.answers.specs.Answer.{answer_line}
 use Rattle.steps.specs.declared.parse.Counts.{Counts}
@@ -19,24 +21,31 @@ use Rattle.steps.specs.declared.parse.Step.{Step}
 abbrev pub count_list : Counts → List ℕ
 count_list c = take c.number (c.first ∷ c.second ∷ c.third ∷ [])
 
+-- the steps that name a device alone
+abbrev pub act_step : Act → ℕ → machine.Step sheet
+act_step Act.Push device = machine.push device
+act_step Act.Send device = machine.send device
+act_step Act.Confirmed device = machine.confirmed device
+act_step Act.Ask device = machine.ask device
+act_step Act.Drop device = machine.drop_channel device
+act_step Act.Receive device = machine.receive device
+act_step Act.Pull device = machine.pull device
+act_step Act.Accept device = machine.accept device
+act_step Act.Serverdrop device = machine.serverdrop device
+
 -- "First field is the step; then devices and cells for start, the device (and cell) elsewhere; `crash` stands alone."
 abbrev pub asked : Step → Asked
 asked (Step.Start devices cells) = start devices cells
 asked (Step.Update device cell update) = machine_step (machine.update device (update_of cell update))
 asked (Step.Read device cell) = machine_step (machine.read device cell)
-asked (Step.Push device) = machine_step (machine.push device)
-asked (Step.Send device) = machine_step (machine.send device)
-asked (Step.Confirmed device) = machine_step (machine.confirmed device)
-asked (Step.Ask device) = machine_step (machine.ask device)
-asked (Step.Drop device) = machine_step (machine.drop_channel device)
-asked (Step.Receive device) = machine_step (machine.receive device)
-asked (Step.Pull device) = machine_step (machine.pull device)
-asked (Step.Accept device) = machine_step (machine.accept device)
-asked (Step.Serverdrop device) = machine_step (machine.serverdrop device)
+asked (Step.Device act device) = machine_step (act_step act device)
 asked Step.Crash = machine_step machine.crash
 asked (Step.Batch counts) = machine_step (machine.batch (count_list counts))
 asked (Step.Cut counts j) = machine_step (machine.cut (count_list counts) j)
-asked Step.NoStep = no_step
+
+-- "a line that is no step"
+abbrev pub asked_by : std.Option Step → Asked
+asked_by s = on_some no_step s asked
 
 -- The answer, and the table since the last start: none before one.
 pub record Reply : Type 0 where
@@ -77,13 +86,13 @@ devices_of (some t) = t.devices
 
 -- "13, which goes before all others"
 unfoldable pub answer_to : Option (Table sheet) → List ℕ → Reply
-answer_to s line = reply_to s (asked (parse_line (devices_of s) line))
+answer_to s line = reply_to s (asked_by (parse_line (devices_of s) line))
 
 -- "Answers, one per line": to lines in order, and the table after them
 unfoldable pub answers_to : Option (Table sheet) → List (List ℕ) → List ℕ
 unfolding answer_to
 answers_to s [] = []
-answers_to s (line ∷ lines) = answer_line (written (answer_to s line).answer) ++ answers_to (answer_to s line).table lines
+answers_to s (line ∷ lines) = answer_line (answer_to s line).answer ++ answers_to (answer_to s line).table lines
 
 unfoldable pub table_after : Option (Table sheet) → List (List ℕ) → Option (Table sheet)
 unfolding answer_to

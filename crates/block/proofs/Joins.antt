@@ -9,27 +9,16 @@ use lib.Dec.{eqb}
 use borrow.Author.Tests.{lt-ltb, eq-eqb, eqb-true}
 use Rattle.cells.specs.declared.Change.{Change}
 use Rattle.protocol.specs.declared.Refusal.{Refusal}
-use Rattle.protocol.specs.Machine.{choose, put, Device, Table, fine, tell, unless_refused, joined, settle, step, block_at, update_at}
+use Rattle.protocol.specs.Machine.{choose, put, Device, Table, fine, tell, unless_refused, joined, settle, step, block_at, update_at, Answer, done, refused_at}
 use Rattle.protocol.specs.Machine as machine
 use Rattle.protocol.specs.Claims.{join_updates}
 use Rattle.protocol.specs.Fits.{Fits, FitsDevice}
 use Rattle.sheet.specs.Changes.{CellUpdate}
 use Rattle.sheet.specs.Sheet.{sheet}
-use Rattle.sheet.specs.declared.Answer.{Answer}
-use Rattle.sheet.specs.declared.Answer.TheVariants.{Done, RefusedAt}
 use Rattle.record.proofs.SameQueues.{SameQueues}
 use Rattle.table.proofs.Records.{put_same}
-use Rattle.block.specs.Block.{update_in, updates_in, refusal_of}
+use Rattle.block.specs.Block.{update_in, updates_in, refusal_of, by_refusal, first_bad}
 use Rattle.block.specs.declared.Entry.{Entry}
-
--- The answer of a block by its first bad update, from the position i on.
-abbrev pub by_refusal : Option Refusal → ℕ → Answer → Answer
-by_refusal none i a = a
-by_refusal (some r) i a = RefusedAt r i
-
-abbrev pub first_bad : (cells i : ℕ) → List Entry → Answer
-first_bad cells i [] = Done
-first_bad cells i (e ∷ es) = by_refusal (refusal_of cells e) i (first_bad cells (suc i) es)
 
 -- A device with another open transaction, and a table with another device d.
 abbrev pub opened : Device sheet → (ℕ → Change) → Device sheet
@@ -38,29 +27,29 @@ opened x b = record { known = x.known; received = x.received; pending = x.pendin
 abbrev pub placed : ℕ → Device sheet → Table sheet → Table sheet
 placed d y t = record { devices = t.devices; cells = t.cells; sheet = t.sheet; taken = t.taken; device = put d y t.device }
 
-never_done : {A : Type 0} (r : Refusal) (i : ℕ) → RefusedAt r i ≡ Done → A
+never_done : {A : Type 0} (r : Refusal) (i : ℕ) → ◌≡◌ {A = Answer sheet} (refused_at r i) done → A
 never_done r i e = let z : ◌≡◌ {A = ℕ} 0 1 = cc in absurd (omega arith)
 
 module _ (cells d : ℕ) where
   -- every update is good, and all are joined; or one is bad, and nothing is
-  pub good_block : (es : List Entry) (i : ℕ) (x : Device sheet) → first_bad cells i es ≡ Done → block_at sheet cells d i (updates_in es) x ≡ fine (opened x (join_updates sheet x.transaction (updates_in es)))
+  pub good_block : (es : List Entry) (i : ℕ) (x : Device sheet) → first_bad cells i es ≡ done → block_at sheet cells d i (updates_in es) x ≡ fine (opened x (join_updates sheet x.transaction (updates_in es)))
   good_block [] i x h = refl
   good_block (e ∷ es) i x h = go (good_block es (suc i) (joined sheet (update_in e) x)) (refusal_of cells e) h
     where
-      go : (first_bad cells (suc i) es ≡ Done → block_at sheet cells d (suc i) (updates_in es) (joined sheet (update_in e) x) ≡ fine (opened x (join_updates sheet x.transaction (updates_in (e ∷ es)))))
-          → (o : Option Refusal) → by_refusal o i (first_bad cells (suc i) es) ≡ Done → unless_refused sheet o (λ r. machine.refused_at r i) (block_at sheet cells d (suc i) (updates_in es) (joined sheet (update_in e) x)) ≡ fine (opened x (join_updates sheet x.transaction (updates_in (e ∷ es))))
+      go : (first_bad cells (suc i) es ≡ done → block_at sheet cells d (suc i) (updates_in es) (joined sheet (update_in e) x) ≡ fine (opened x (join_updates sheet x.transaction (updates_in (e ∷ es)))))
+          → (o : Option Refusal) → by_refusal o i (first_bad cells (suc i) es) ≡ done → unless_refused sheet o (λ r. machine.refused_at r i) (block_at sheet cells d (suc i) (updates_in es) (joined sheet (update_in e) x)) ≡ fine (opened x (join_updates sheet x.transaction (updates_in (e ∷ es))))
       go ih none q = ih q
       go ih (some r) q = never_done r i q
 
-  pub bad_block : (es : List Entry) (i : ℕ) (x : Device sheet) (r : Refusal) (k : ℕ) → first_bad cells i es ≡ RefusedAt r k → block_at sheet cells d i (updates_in es) x ≡ tell (machine.refused_at r k)
+  pub bad_block : (es : List Entry) (i : ℕ) (x : Device sheet) (r : Refusal) (k : ℕ) → first_bad cells i es ≡ refused_at r k → block_at sheet cells d i (updates_in es) x ≡ tell (machine.refused_at r k)
   bad_block [] i x r k h = never_done r k (sym h)
   bad_block (e ∷ es) i x r k h = go (bad_block es (suc i) (joined sheet (update_in e) x) r k) (refusal_of cells e) h
     where
-      same : (q : Refusal) (a b : ℕ) (r : Refusal) → RefusedAt q a ≡ RefusedAt r b → ◌≡◌ {A = machine.Answer sheet} (machine.refused_at q a) (machine.refused_at r b)
+      same : (q : Refusal) (a b : ℕ) (r : Refusal) → ◌≡◌ {A = machine.Answer sheet} (refused_at q a) (refused_at r b) → ◌≡◌ {A = machine.Answer sheet} (machine.refused_at q a) (machine.refused_at r b)
       same q a b r e = let z : q ≡ r = cc in let w : a ≡ b = cc in (λ i. machine.refused_at (z i) (w i))
 
-      go : (first_bad cells (suc i) es ≡ RefusedAt r k → block_at sheet cells d (suc i) (updates_in es) (joined sheet (update_in e) x) ≡ tell (machine.refused_at r k))
-          → (o : Option Refusal) → by_refusal o i (first_bad cells (suc i) es) ≡ RefusedAt r k → unless_refused sheet o (λ r. machine.refused_at r i) (block_at sheet cells d (suc i) (updates_in es) (joined sheet (update_in e) x)) ≡ tell (machine.refused_at r k)
+      go : (first_bad cells (suc i) es ≡ refused_at r k → block_at sheet cells d (suc i) (updates_in es) (joined sheet (update_in e) x) ≡ tell (machine.refused_at r k))
+          → (o : Option Refusal) → by_refusal o i (first_bad cells (suc i) es) ≡ refused_at r k → unless_refused sheet o (λ r. machine.refused_at r i) (block_at sheet cells d (suc i) (updates_in es) (joined sheet (update_in e) x)) ≡ tell (machine.refused_at r k)
       go ih none q = ih q
       go ih (some p) q = ap tell (same p i k r q)
 
@@ -70,10 +59,10 @@ module _ (t : Table sheet) (d : ℕ) (h : d < t.devices) where
   unfolding step
   block_is es = ap (λ (b : Bool). settle sheet t d b (block_at sheet t.cells d 0 (updates_in es) (t.device d))) (lt-ltb d t.devices h)
 
-  pub block_done : (es : List Entry) → first_bad t.cells 0 es ≡ Done → step sheet (machine.block d (updates_in es)) t ≡ record { answer = machine.done; table = placed d (opened (t.device d) (join_updates sheet (t.device d).transaction (updates_in es))) t }
+  pub block_done : (es : List Entry) → first_bad t.cells 0 es ≡ done → step sheet (machine.block d (updates_in es)) t ≡ record { answer = machine.done; table = placed d (opened (t.device d) (join_updates sheet (t.device d).transaction (updates_in es))) t }
   block_done es e = block_is es ∙ ap (settle sheet t d true) (good_block t.cells d es 0 (t.device d) e)
 
-  pub block_refused : (es : List Entry) (r : Refusal) (k : ℕ) → first_bad t.cells 0 es ≡ RefusedAt r k → step sheet (machine.block d (updates_in es)) t ≡ record { answer = machine.refused_at r k; table = t }
+  pub block_refused : (es : List Entry) (r : Refusal) (k : ℕ) → first_bad t.cells 0 es ≡ refused_at r k → step sheet (machine.block d (updates_in es)) t ≡ record { answer = machine.refused_at r k; table = t }
   block_refused es r k e = block_is es ∙ ap (settle sheet t d true) (bad_block t.cells d es 0 (t.device d) r k e)
 
   pub update_done : (e : Entry) → refusal_of t.cells e ≡ none → step sheet (machine.update d (update_in e)) t ≡ record { answer = machine.done; table = placed d (joined sheet (update_in e) (t.device d)) t }

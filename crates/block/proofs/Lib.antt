@@ -1,7 +1,5 @@
-pub mod Looks
 pub mod Shape
 pub mod Joins
-pub mod Stages
-pub mod Stepping
-pub mod Standing
+pub mod Joining
+pub mod Looking
 pub mod Theorems

@@ -8,22 +8,21 @@ use native.Mathlib.Omega.{arith}
 use Rattle.cells.specs.declared.Change.{Change}
 use Rattle.protocol.specs.declared.Refusal.{Refusal}
 use Rattle.protocol.specs.declared.Refusal.TheVariants.{NoTable, NoDevice}
-use Rattle.protocol.specs.Machine.{Device, Table, Result, joined, step, run, refused, refused_at}
+use Rattle.protocol.specs.Machine.{Device, Table, Result, joined, step, run, refused, refused_at, done}
 use Rattle.protocol.specs.Machine as machine
 use Rattle.protocol.specs.History.{Every}
 use Rattle.protocol.specs.Claims.{join_updates}
 use Rattle.protocol.specs.Refusals.{FirstBad as FirstBadOn}
 use Rattle.sheet.specs.Sheet.{sheet}
-use Rattle.sheet.specs.declared.Answer.TheVariants.{Done, RefusedAt}
-use Rattle.sheet.proofs.OneAnswer.{meaning_one, done_refused}
+use Rattle.sheet.proofs.OneAnswer.{done_refused}
 use Rattle.sheet.proofs.Theorem.{refused_exactly_when, refusal_changes_nothing}
 use Rattle.words.proofs.Places.{lt_or_ge}
 use Rattle.table.specs.Table.{reading, IsTable}
 use Rattle.table.proofs.Once.{became_same, either_way}
-use Rattle.block.specs.Block.{update_in, updates_in, refusal_of}
+use Rattle.block.specs.Block.{update_in, updates_in, refusal_of, by_refusal, first_bad}
 use Rattle.block.specs.Claims.{FirstBad, BlockAlwaysAnswers, BlockAllOrNone, EmptyBlock, BlockInOrder}
 use Rattle.block.specs.declared.Entry.{Entry}
-use Rattle.block.proofs.Joins.{by_refusal, first_bad, opened, placed, placed_same, joined_on, block_done, block_refused, update_done}
+use Rattle.block.proofs.Joins.{opened, placed, placed_same, joined_on, block_done, block_refused, update_done}
 
 module _ (m : machine.Answer sheet) where
   device_table : m ≡ refused NoDevice → m ≡ refused NoTable → ⊥
@@ -33,11 +32,11 @@ module _ (m : machine.Answer sheet) where
   at_refused r q k e f = let z : ◌≡◌ {A = ℕ} 0 1 = cc in omega arith
 
 -- A block is done, or refused with a position.
-either : (cells : ℕ) (es : List Entry) (i : ℕ) → (first_bad cells i es ≡ Done) ⊎ ((r : Refusal) × (k : ℕ) × (first_bad cells i es ≡ RefusedAt r k))
+either : (cells : ℕ) (es : List Entry) (i : ℕ) → (first_bad cells i es ≡ done) ⊎ ((r : Refusal) × (k : ℕ) × (first_bad cells i es ≡ refused_at r k))
 either cells [] i = inl refl
 either cells (e ∷ es) i = go (refusal_of cells e) (either cells es (suc i))
   where
-    go : (o : Option Refusal) → (first_bad cells (suc i) es ≡ Done) ⊎ ((r : Refusal) × (k : ℕ) × (first_bad cells (suc i) es ≡ RefusedAt r k)) → (by_refusal o i (first_bad cells (suc i) es) ≡ Done) ⊎ ((r : Refusal) × (k : ℕ) × (by_refusal o i (first_bad cells (suc i) es) ≡ RefusedAt r k))
+    go : (o : Option Refusal) → (first_bad cells (suc i) es ≡ done) ⊎ ((r : Refusal) × (k : ℕ) × (first_bad cells (suc i) es ≡ refused_at r k)) → (by_refusal o i (first_bad cells (suc i) es) ≡ done) ⊎ ((r : Refusal) × (k : ℕ) × (by_refusal o i (first_bad cells (suc i) es) ≡ refused_at r k))
     go none ih = ih
     go (some r) ih = inr (r, i, refl)
 
@@ -103,7 +102,7 @@ block_all_or_none d es xs ys a S n =
     unmoved : IsTable xs → (step sheet (machine.block d (updates_in es)) (reading xs)).table ≡ reading xs
     unmoved T = ⊎_elim
         (λ l. ⊎_elim
-        (λ g. absurd (n (meaning_one a Done (S.answer T ∙ ap (λ (x : Result sheet). x.answer) (block_done (reading xs) d l es g)))))
+        (λ g. absurd (n (S.answer T ∙ ap (λ (x : Result sheet). x.answer) (block_done (reading xs) d l es g))))
         (λ b. ap (λ (x : Result sheet). x.table) (block_refused (reading xs) d l es b.0 b.1 b.2))
         (either (reading xs).cells es 0))
         (λ g. (refusal_changes_nothing (machine.block d (updates_in es)) (reading xs) NoDevice).0 (((refused_exactly_when (reading xs) d).no_device (updates_in es) 0).0.1 g))
@@ -128,13 +127,13 @@ module _ (d : ℕ) (t : Table sheet) (l : d < t.devices) where
       (ap (λ (x : Result sheet). x.table) (update_done (placed d (opened (t.device d) b) t) d l e g.0) ∙ joined_on d (update_in e) (t.device d) b t)
       ∙ one_by_one es (join_updates sheet b (update_in e ∷ [])) g.1
 
-good : (cells : ℕ) (es : List Entry) (i : ℕ) → Every (λ e. refusal_of cells e ≡ none) es → first_bad cells i es ≡ Done
+good : (cells : ℕ) (es : List Entry) (i : ℕ) → Every (λ e. refusal_of cells e ≡ none) es → first_bad cells i es ≡ done
 good cells [] i g = refl
 good cells (e ∷ es) i g = ap (λ (o : Option Refusal). by_refusal o i (first_bad cells (suc i) es)) g.0 ∙ good cells es (suc i) g.1
 
 pub block_in_order : BlockInOrder
 block_in_order d es xs ys T S =
-    let p = ((block_answers d es xs ys Done S).block_done T).0 refl in
+    let p = ((block_answers d es xs ys done S).block_done T).0 refl in
     (S.after T).says
     ∙ ap (λ (x : Result sheet). x.table) (block_done (reading xs) d p.0 es (good (reading xs).cells es 0 p.1))
     ∙ sym (one_by_one d (reading xs) p.0 es ((reading xs).device d).transaction p.1)

@@ -8,7 +8,7 @@ ghost use Rattle.std.specs.Prelude.{◌≤◌};
 use block::{Entry, block_of};
 use cells::{Cell, Update};
 use devices::calls::read;
-use showing::{show_answer, show_changes, write};
+use showing::{show_answer, show_changes};
 use std::io;
 use table::begin::start;
 use words::layout::{RECORD, RECORDS};
@@ -19,7 +19,7 @@ const ROOM: usize = RECORDS + RECORD * 2 + 2;
 // Pastes the first k of the entries to device d.
 fn paste(
     rt: &impl Print,
-    what: &[u8],
+    what: &str,
     t: [u64; ROOM],
     d: u64,
     entries: [Entry; 4],
@@ -29,11 +29,10 @@ fn paste(
 {
     let mut now = t;
     let a = block_of(&mut now, d, entries, k);
-    write(rt, what)?;
-    write(rt, b": ")?;
+    print!(rt; "{what}: ")?;
     show_answer(rt, a)?;
     show_changes(rt, &now, &t)?;
-    write(rt, b"\n")?;
+    println!(rt; "")?;
     Ok(now)
 }
 
@@ -54,11 +53,9 @@ fn unbounded() -> f64 {
 }
 
 fn show_read(rt: &impl Print, t: &[u64], cell: u64) -> io::Result<()> {
-    write(rt, b"cell ")?;
-    rt.print(cell)?;
-    write(rt, b": ")?;
+    print!(rt; "cell {cell}: ")?;
     show_answer(rt, read(t, 0, cell))?;
-    write(rt, b"\n")
+    println!(rt; "")
 }
 
 fn good_blocks(rt: &impl Print, t: [u64; ROOM]) -> io::Result<[u64; ROOM]> {
@@ -68,10 +65,10 @@ fn good_blocks(rt: &impl Print, t: [u64; ROOM]) -> io::Result<[u64; ROOM]> {
         entry(3, Update::Set(Cell::Measure(1.5))),
         entry(0, Update::Add(-1)),
     ];
-    let a = paste(rt, b"four good updates", t, 0, four, 4)?;
-    let b = paste(rt, b"an empty block", a, 0, four, 0)?;
+    let a = paste(rt, "four good updates", t, 0, four, 4)?;
+    let b = paste(rt, "an empty block", a, 0, four, 0)?;
     let one = [entry(1, Update::Set(Cell::Blank)), good(), good(), good()];
-    paste(rt, b"one good update", b, 0, one, 1)
+    paste(rt, "one good update", b, 0, one, 1)
 }
 
 fn bad_blocks(rt: &impl Print, t: [u64; ROOM]) -> io::Result<[u64; ROOM]> {
@@ -83,7 +80,7 @@ fn bad_blocks(rt: &impl Print, t: [u64; ROOM]) -> io::Result<[u64; ROOM]> {
     let both = entry(4, Update::Set(Cell::Measure(x)));
     let a = paste(
         rt,
-        b"the first is bad",
+        "the first is bad",
         t,
         0,
         [past, good(), good(), good()],
@@ -91,7 +88,7 @@ fn bad_blocks(rt: &impl Print, t: [u64; ROOM]) -> io::Result<[u64; ROOM]> {
     )?;
     let b = paste(
         rt,
-        b"one in the middle is bad",
+        "one in the middle is bad",
         a,
         0,
         [good(), good(), infinite, good()],
@@ -99,16 +96,16 @@ fn bad_blocks(rt: &impl Print, t: [u64; ROOM]) -> io::Result<[u64; ROOM]> {
     )?;
     let c = paste(
         rt,
-        b"the last is bad",
+        "the last is bad",
         b,
         0,
         [good(), good(), good(), nothing],
         4,
     )?;
-    let d = paste(rt, b"two are bad", c, 0, [good(), infinite, good(), far], 4)?;
+    let d = paste(rt, "two are bad", c, 0, [good(), infinite, good(), far], 4)?;
     let e = paste(
         rt,
-        b"two are bad, the other way",
+        "two are bad, the other way",
         d,
         0,
         [good(), far, good(), infinite],
@@ -116,7 +113,7 @@ fn bad_blocks(rt: &impl Print, t: [u64; ROOM]) -> io::Result<[u64; ROOM]> {
     )?;
     let f = paste(
         rt,
-        b"one is bad twice",
+        "one is bad twice",
         e,
         0,
         [both, good(), good(), good()],
@@ -124,7 +121,7 @@ fn bad_blocks(rt: &impl Print, t: [u64; ROOM]) -> io::Result<[u64; ROOM]> {
     )?;
     paste(
         rt,
-        b"the bad one is left out",
+        "the bad one is left out",
         f,
         1,
         [good(), past, past, past],
@@ -135,18 +132,18 @@ fn bad_blocks(rt: &impl Print, t: [u64; ROOM]) -> io::Result<[u64; ROOM]> {
 fn refused_blocks(rt: &impl Print, t: [u64; ROOM]) -> io::Result<()> {
     let bad = entry(9, Update::Add(1));
     let all = [bad, bad, bad, bad];
-    let a = paste(rt, b"no such device", t, 2, all, 4)?;
-    let b = paste(rt, b"no such device, an empty block", a, 2, all, 0)?;
+    let a = paste(rt, "no such device", t, 2, all, 4)?;
+    let b = paste(rt, "no such device, an empty block", a, 2, all, 0)?;
     let mut c = b;
     c[0] = 9;
-    let d = paste(rt, b"no table", c, 2, all, 4)?;
-    paste(rt, b"no table, an empty block", d, 0, all, 0)?;
+    let d = paste(rt, "no table", c, 2, all, 4)?;
+    paste(rt, "no table, an empty block", d, 0, all, 0)?;
     Ok(())
 }
 
 fn main(rt: HostRuntime) -> io::Result<()> {
     let mut t = [7u64; ROOM];
-    start(&mut t, 2, 4);
+    let _ = start(&mut t, 2, 4);
     let a = good_blocks(&rt, t)?;
     let b = bad_blocks(&rt, a)?;
     refused_blocks(&rt, b)?;

@@ -6,8 +6,7 @@ use native.Mathlib.Nat.{add-zero}
 use native.Mathlib.Omega.{arith}
 use lib.ListN.{drop, get_or, length, length-append}
 use Rattle.cbor.specs.Bytes.{Got}
-use Rattle.cbor.specs.Code.{All, Here, HereEach, Nowhere, NowhereEach, each}
-use Rattle.cbor.proofs.Apart.{Free}
+use Rattle.cbor.specs.Code.{All, each, Free, Here, HereEach, Nowhere, NowhereEach}
 
 module _ {A : Type 0} (f : A → List ℕ) where
   pub each_snoc : (l : List A) (a : A) → each f (l ++ (a ∷ [])) ≡ each f l ++ f a

@@ -9,7 +9,7 @@ use lib.Arith.{digits_div, digits_lt, digits_mod}
 use lib.Dec.{lit<}
 use lib.ListN.{drop, get_or, length, length-append, length-drop, set, take, take-append-drop}
 use lib.Pow.{pow-add, pow_mono, shr_lt}
-use lib.Seq.{drop_at, drop-drop, get_or-drop, take_at, take-suc}
+use lib.Seq.{drop_at, drop-drop, get_or-drop, get_or-take, length-take-le, take_at, take-suc}
 use Rattle.cbor.specs.Bytes.{HighFirstAt, Got, high_first, put}
 use Rattle.cbor.proofs.Writing.{put_front, put_nil, set_put}
 
@@ -58,6 +58,13 @@ part_more : (s : List ℕ) (p i : ℕ) → p + i < length s → take (i + 1) (dr
 part_more s p i h =
     let l : i < length (drop p s) = omega (arith, length-drop p s) in
     rw (add-one, take-suc (drop p s) i 0 l, get_or-drop p s i 0)
+
+-- a part has as many elements as were asked for, and they are those of its list
+pub part_length : (s : List ℕ) (p n : ℕ) → p + n ≤ length s → length (take (p + n - p) (drop p s)) ≡ n
+part_length s p n l = length-take-le (p + n - p) (drop p s) (omega (arith, length-drop p s)) ∙ omega arith
+
+pub part_entry : (s : List ℕ) (p n i : ℕ) → i < n → get_or (take (p + n - p) (drop p s)) i 0 ≡ get_or s (p + i) 0
+part_entry s p n i h = let m : i < p + n - p = omega arith in rw (get_or-take, get_or-drop) refl
 
 pub high_first_none : (s : List ℕ) (p : ℕ) → HighFirstAt s p 0 0
 unfolding high_first

@@ -6,9 +6,8 @@
 
 ghost use Rattle.std.specs.Prelude.{◌≤◌, ◌<◌, length};
 
-use cbor::token::{Read, Token};
+use cbor::token::Token;
 use cells::Cell;
-use coding::cell::CellRead;
 use image::opening::open_image;
 use image::writing::write_image;
 use sheet::Answer;
@@ -38,33 +37,27 @@ fn show_token(rt: &impl Print, t: Token) -> io::Result<()> {
 
 // The token at a place; answers the place after it, or the end.
 fn step(rt: &impl Print, s: &[u8], at: usize) -> io::Result<usize> {
-    match cbor::token::read_token(s, at) {
-        Read::Found(t, next) => {
-            show_token(rt, t)?;
-            Ok(next)
-        }
-        Read::Absent => {
-            rt.write_all(b" refused")?;
-            Ok(s.len())
-        }
-    }
+    let Some((t, next)) = cbor::token::read_token(s, at) else {
+        rt.write_all(b" refused")?;
+        return Ok(s.len());
+    };
+    show_token(rt, t)?;
+    Ok(next)
 }
 
 // The tokens from the front on, 81 at the most.
 fn show_tokens(rt: &impl Print, s: &[u8]) -> io::Result<()> {
     let mut at = step(rt, s, 0)?;
-    let mut left: u64 = 80;
-    while 0 < left {
+    for _ in 0..80 {
         if at < s.len() {
             at = step(rt, s, at)?;
         }
-        left -= 1;
     }
     Ok(())
 }
 
 fn show_cell(rt: &impl Print, s: &[u8]) -> io::Result<()> {
-    let CellRead::CellAt(c, _) = coding::cell::read_cell(s, 0) else {
+    let Some((c, _)) = coding::cell::read_cell(s, 0) else {
         return rt.write_all(b" no cell");
     };
     match c {
@@ -82,13 +75,13 @@ fn show_cell(rt: &impl Print, s: &[u8]) -> io::Result<()> {
 // The image opened into a table, and written again.
 fn show_image(rt: &impl Print, s: &[u8]) -> io::Result<()> {
     let mut t = [0u64; 29650];
-    let Answer::Done = open_image(&mut t, s) else {
+    let Ok(Answer::Done) = open_image(&mut t, s) else {
         return rt.write_all(b" no image");
     };
     number(rt, b" cells,", t[CELLS])?;
     number(rt, b" devices,", t[DEVICES])?;
     let mut out = [0u8; 620];
-    let Answer::Length(k) = write_image(&t, &mut out) else {
+    let Ok(Answer::Length(k)) = write_image(&t, &mut out) else {
         return Ok(());
     };
     number(rt, b" length,", k)?;
@@ -116,8 +109,8 @@ fn digit(b: u8) -> u8
     ensures { result < 16 }
 {
     match b {
-        48..=57 => b - 48,
-        97..=102 => b - 87,
+        b'0'..=b'9' => b - b'0',
+        b'a'..=b'f' => b - b'a' + 10,
         _ => 0,
     }
 }
@@ -126,15 +119,11 @@ fn digit(b: u8) -> u8
 fn bytes_of(hex: &[u8], item: &mut [u8]) -> usize
     ensures { result ≤ length item.new }
 {
-    let mut i = 0;
-    while i < hex.len() / 2 {
-        if item.len() <= i {
-            return i;
-        }
-        item[i] = 16 * digit(hex[2 * i]) + digit(hex[2 * i + 1]);
-        i += 1;
+    let n = item.len().min(hex.len() / 2);
+    for (byte, pair) in item.iter_mut().zip(hex.chunks_exact(2)) {
+        *byte = 16 * digit(pair[0]) + digit(pair[1]);
     }
-    i
+    n
 }
 
 // The first place from `at` on where b stands, or the end.
@@ -142,14 +131,10 @@ fn find(s: &[u8], at: usize, b: u8) -> usize
     requires { at ≤ length s.now }
     ensures { (at ≤ result) × (result ≤ length s.now) }
 {
-    let mut i = at;
-    while i < s.len() {
-        if s[i] == b {
-            return i;
-        }
-        i += 1;
-    }
-    i
+    s[at..]
+        .iter()
+        .position(|x| *x == b)
+        .map_or(s.len(), |k| at + k)
 }
 
 // One line; answers the place of the next.
@@ -169,12 +154,10 @@ fn line(rt: &impl Print, s: &[u8], at: usize) -> io::Result<usize>
 
 fn lines(rt: &impl Print, s: &[u8]) -> io::Result<()> {
     let mut at = 0;
-    let mut left: u64 = 1000;
-    while 0 < left {
+    for _ in 0..1000 {
         if at < s.len() {
             at = line(rt, s, at)?;
         }
-        left -= 1;
     }
     Ok(())
 }

@@ -1,6 +1,6 @@
 -- Words that meet the conditions are a record whose device fits. Assumes nothing.
 use mathlib.Core.Path.{◌≡◌, refl, sym, ap, ◌∙◌}
-use mathlib.Core.Bool.{true}
+use mathlib.Core.Bool.{Bool, true}
 use mathlib.Core.List.{List}
 use mathlib.Core.Option.{some}
 use Prim.Native.Nat.{ℕ, zero, suc, ◌+◌, ◌*◌, ◌-◌, ◌≤◌, ◌<◌}
@@ -10,10 +10,12 @@ use Rattle.protocol.specs.Machine.{given, gives, asked}
 use Rattle.protocol.specs.Fits.{FitsDevice, is_prefix}
 use Rattle.sheet.specs.Sheet.{sheet}
 use Rattle.words.specs.Layout.{ROUND, ITEM, PREFIX, ASKED, TAKEN, CHANNEL, PENDING_LENGTH, WAITING_LENGTH, ITEMS_LENGTH, RECEIVED, PENDING, WAITING, ITEMS, RECORD}
-use Rattle.words.proofs.Tests.{true_false}
+use Rattle.words.specs.Place.{Decides}
+use Rattle.words.proofs.Tests.{true_false, decides_iff}
 use Rattle.record.specs.Reading.{item_at, buffer_of, received_at, link_of, device_of, channel_of}
 use Rattle.record.specs.Valid.{ValidItem, ValidRecord, IsRecord}
 use Rattle.record.specs.Conditions.{Singles, Lengths, Channels, Requests, DueItem, GoodPending, GoodWaiting, Sheets}
+use Rattle.record.proofs.Conditions.{is_singles, is_lengths, are_channels, are_requests, are_sheets, are_pending, are_waiting, are_items}
 use Rattle.record.proofs.Queues.{queue_length, queue_at}
 use Rattle.record.proofs.Same.{queue_same}
 use Rattle.record.proofs.Meanings.{channel_off, channel_asked, not_established, channel_established, connection_live, connection_stale, not_stale, request_there, empty_queue, prefix_kind, kind_prefix, gives_is, numbers_are}
@@ -117,3 +119,19 @@ module _ (devices cells : ℕ) (xs : List ℕ) (size : length xs ≡ RECORD) whe
 
     pub record_is : devices ≤ 8 → cells ≤ 64 → IsRecord devices cells xs
     record_is d c = record { few_devices = d; few_cells = c; valid = valid_is; fits = fits_is }
+
+  -- The conditions are those of a record.
+  conditions_of : IsRecord devices cells xs → Conditions devices cells xs
+  conditions_of R = record {
+    singles = is_singles devices cells xs size R;
+    lengths = is_lengths devices cells xs size R;
+    channels = are_channels devices cells xs size R;
+    requests = are_requests devices cells xs size R;
+    sheets = are_sheets devices cells xs size R;
+    pending = are_pending devices cells xs size R;
+    waiting = are_waiting devices cells xs size R;
+    items = are_items devices cells xs size R;
+  }
+
+  pub conditions_decide : {r : Bool} → devices ≤ 8 → cells ≤ 64 → Decides r (Conditions devices cells xs) → Decides r (IsRecord devices cells xs)
+  conditions_decide d c D = decides_iff D (λ C. record_is C d c) conditions_of

@@ -6,56 +6,36 @@ ghost use Rattle.record.specs.Conditions.{Sheets};
 ghost use Rattle.record.specs.Valid.{IsRecord};
 
 use crate::link::{are_lengths, are_singles, is_channel, is_request};
+use cells::{Cell, Change};
 use entries::entries::{are_items, are_pending, are_waiting, is_item};
-use words::check::{are_cells, are_changes};
+use words::check::are_valid;
+use words::extent::Extent;
 use words::layout::{
     BUFFERED, ITEMS_LENGTH, KNOWN, PENDING_LENGTH, RECEIVED, TRANSACTION, WAITING_LENGTH,
 };
 
 // Whether the known sheet, the open transaction, the push buffer and the receive buffer are valid.
-fn are_sheets(r: &[u64], devices: usize, cells: usize) -> bool
-    requires { (length r.now ≡ RECORD) × (devices ≤ MOST_DEVICES) × (cells ≤ MOST_CELLS) }
-    ensures { Decides result (Sheets devices cells r.now) }
+fn are_sheets(r: &[u64], extent: Extent) -> bool
+    requires { length r.now ≡ RECORD }
+    ensures { Decides result (Sheets extent.devices extent.cells r.now) }
 {
-    if !are_cells(r, KNOWN, cells) {
-        return false;
-    }
-    if !are_changes(r, TRANSACTION, cells) {
-        return false;
-    }
-    if !are_changes(r, BUFFERED, cells) {
-        return false;
-    }
-    if r[RECEIVED] == 0 {
-        return true;
-    }
-    is_item(r, RECEIVED, devices, cells)
+    are_valid::<Cell>(r, KNOWN, extent.cells)
+        && are_valid::<Change>(r, TRANSACTION, extent.cells)
+        && are_valid::<Change>(r, BUFFERED, extent.cells)
+        && (r[RECEIVED] == 0 || is_item(r, RECEIVED, extent))
 }
 
-pub fn is_record(r: &[u64], devices: usize, cells: usize) -> bool
-    requires { (length r.now ≡ RECORD) × (devices ≤ MOST_DEVICES) × (cells ≤ MOST_CELLS) }
-    ensures { Decides result (IsRecord devices cells r.now) }
+// Whether the record is one of a table of so many devices and cells.
+pub fn is_record(r: &[u64], extent: Extent) -> bool
+    requires { length r.now ≡ RECORD }
+    ensures { Decides result (IsRecord extent.devices extent.cells r.now) }
 {
-    if !are_singles(r) {
-        return false;
-    }
-    if !are_lengths(r) {
-        return false;
-    }
-    if !is_channel(r) {
-        return false;
-    }
-    if !is_request(r) {
-        return false;
-    }
-    if !are_sheets(r, devices, cells) {
-        return false;
-    }
-    if !are_pending(r, r[PENDING_LENGTH] as usize, cells) {
-        return false;
-    }
-    if !are_waiting(r, r[WAITING_LENGTH] as usize, cells) {
-        return false;
-    }
-    are_items(r, r[ITEMS_LENGTH] as usize, devices, cells)
+    are_singles(r)
+        && are_lengths(r)
+        && is_channel(r)
+        && is_request(r)
+        && are_sheets(r, extent)
+        && are_pending(r, r[PENDING_LENGTH] as usize, extent.cells)
+        && are_waiting(r, r[WAITING_LENGTH] as usize, extent.cells)
+        && are_items(r, r[ITEMS_LENGTH] as usize, extent)
 }

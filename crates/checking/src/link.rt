@@ -15,22 +15,12 @@ pub fn are_singles(r: &[u64]) -> bool
     ensures { Decides result (Singles r.now) }
 {
     let last = r[LAST];
-    if last > MOST_PUSHES {
-        return false;
-    }
-    if r[COVERED] > last {
-        return false;
-    }
-    if r[TAKEN] > last {
-        return false;
-    }
-    if r[CHANNEL] > ESTABLISHED {
-        return false;
-    }
-    if r[CONNECTION] > STALE {
-        return false;
-    }
-    r[REQUEST] <= 1
+    last <= MOST_PUSHES
+        && r[COVERED] <= last
+        && r[TAKEN] <= last
+        && r[CHANNEL] <= ESTABLISHED
+        && r[CONNECTION] <= STALE
+        && r[REQUEST] <= 1
 }
 
 // Whether the queues are within the allowed lengths, and no more rounds wait than are pending.
@@ -38,13 +28,9 @@ pub fn are_lengths(r: &[u64]) -> bool
     requires { length r.now ≡ RECORD }
     ensures { Decides result (Lengths r.now) }
 {
-    if r[PENDING_LENGTH] > QUEUE as u64 {
-        return false;
-    }
-    if r[WAITING_LENGTH] > r[PENDING_LENGTH] {
-        return false;
-    }
-    r[ITEMS_LENGTH] <= QUEUE as u64
+    r[PENDING_LENGTH] <= QUEUE as u64
+        && r[WAITING_LENGTH] <= r[PENDING_LENGTH]
+        && r[ITEMS_LENGTH] <= QUEUE as u64
 }
 
 // Whether what waits has its channel.
@@ -52,26 +38,14 @@ pub fn is_channel(r: &[u64]) -> bool
     requires { (length r.now ≡ RECORD) × Singles r.now }
     ensures { Decides result (Channels r.now) }
 {
-    let channel = r[CHANNEL];
     let connection = r[CONNECTION];
-    if channel == ESTABLISHED {
-        return connection != STALE;
+    // of a channel that is not established only a stale connection has rounds
+    let none_early = connection == STALE || r[WAITING_LENGTH] == 0;
+    match r[CHANNEL] {
+        ESTABLISHED => connection != STALE,
+        ASKED => none_early && (connection != LIVE || r[ITEMS_LENGTH] != 0),
+        _ => none_early && connection != LIVE && r[ITEMS_LENGTH] == 0,
     }
-    if connection != STALE {
-        if r[WAITING_LENGTH] != 0 {
-            return false;
-        }
-    }
-    if channel == 0 {
-        if connection == LIVE {
-            return false;
-        }
-        return r[ITEMS_LENGTH] == 0;
-    }
-    if connection == LIVE {
-        return r[ITEMS_LENGTH] != 0;
-    }
-    true
 }
 
 // Whether a request has its channel.
@@ -79,11 +53,5 @@ pub fn is_request(r: &[u64]) -> bool
     requires { length r.now ≡ RECORD }
     ensures { Decides result (Requests r.now) }
 {
-    if r[REQUEST] == 0 {
-        return true;
-    }
-    if r[CHANNEL] != ASKED {
-        return false;
-    }
-    r[ITEMS_LENGTH] == 0
+    r[REQUEST] == 0 || (r[CHANNEL] == ASKED && r[ITEMS_LENGTH] == 0)
 }

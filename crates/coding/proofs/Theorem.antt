@@ -1,4 +1,5 @@
 -- The claim of specs/Claims.antt, proved. Assumes nothing.
+use Rattle.std.specs.Prelude.{Some}
 use mathlib.Core.Bool.{true}
 use mathlib.Core.List.{List, ◌∷◌}
 use mathlib.Core.Path.{◌≡◌, ap, subst, sym}
@@ -10,7 +11,6 @@ use Rattle.cells.specs.Claims.{measured}
 use Rattle.cells.specs.Finite.{finite_word}
 use Rattle.coding.specs.Claims.{ItemsKeepBits}
 use Rattle.coding.specs.Item.{cell_bytes, cell_token}
-use Rattle.coding.specs.declared.cell.CellRead.TheVariants.{CellAt}
 use Rattle.coding.proofs.Meaning.{measure_allowed, cell_once}
 
 -- a measured number's item
@@ -22,5 +22,5 @@ pub items_keep_bits : ItemsKeepBits
 items_keep_bits bits h e = record {
   allowed = measure_allowed bits e;
   item = float_item bits h e;
-  back = λ s p n r g v. cell_once s p r (CellAt (measured bits) n) v (measure_allowed bits e, subst (λ (l : List ℕ). Got s p l n) (sym (float_item bits h e)) g);
+  back = λ s p n r g v. cell_once s p r (Some (measured bits, n)) v (measure_allowed bits e, subst (λ (l : List ℕ). Got s p l n) (sym (float_item bits h e)) g);
 }

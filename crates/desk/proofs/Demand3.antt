@@ -6,20 +6,15 @@ use mathlib.Core.List.{List, [], ◌∷◌, ◌++◌, map, append_assoc}
 use Prim.Native.Nat.{ℕ, ◌+◌, ◌<◌}
 use native.Mathlib.Omega.{arith}
 use lib.ListN.{length, take}
-use Rattle.protocol.specs.Machine.{Start, Step, Table, step, run, fresh, batched_unless0, after_crash}
+use Rattle.protocol.specs.Machine.{Start, Step, Table, step, run, fresh, batched_unless0, after_crash, Answer, done, value, says_yes, says_no, moved, length_is, refused, refused_at}
 use Rattle.protocol.specs.Machine as machine
 use Rattle.protocol.specs.declared.Refusal.{Refusal}
-use Rattle.protocol.specs.declared.Refusal.TheVariants.{NoTable}
 use Rattle.protocol.specs.History.{Every, table_after, history_after, mine}
 use Rattle.protocol.specs.Claims.{Explained, Onward, waiting_in}
 use Rattle.protocol.specs.Claims as Claims
 use Rattle.protocol.proofs.Run.{read_same, confirmed_same}
 use Rattle.sheet.specs.Changes.{idle_below}
 use Rattle.sheet.specs.Sheet.{sheet}
-use Rattle.sheet.specs.Answer.{meaning}
-use Rattle.sheet.specs.declared.Answer.{Answer}
-use Rattle.sheet.specs.declared.Answer.TheVariants.{Done, Value, Yes, No, Moved, Length, Refused, RefusedAt}
-use Rattle.sheet.proofs.OneAnswer.{meaning_one}
 use Rattle.sheet.proofs.Runs.{run_append}
 use Rattle.sheet.proofs.Theorem as Sheet
 use Rattle.words.proofs.Places.{lt_or_ge}
@@ -33,37 +28,37 @@ use Rattle.desk.proofs.Never1.{step_never_1, length_never_1, short_never_1}
 use Rattle.desk.proofs.Reaches.{start_stays, opening_stays, AllowedStart, At, is_table, called_steps, begun_at}
 
 -- An answer with a refusal's number is a refusal of the machine, with a position or without.
-refusal_is : (a : Answer) → 0 < refusal_number a → (r : Refusal) × ((meaning a ≡ machine.refused r) ⊎ ((k : ℕ) × (meaning a ≡ machine.refused_at r k)))
-refusal_is Done h = absurd (omega arith)
-refusal_is (Value c) h = absurd (omega arith)
-refusal_is Yes h = absurd (omega arith)
-refusal_is No h = absurd (omega arith)
-refusal_is (Moved k) h = absurd (omega arith)
-refusal_is (Length k) h = absurd (omega arith)
-refusal_is (Refused r) h = (r, inl refl)
-refusal_is (RefusedAt r k) h = (r, inr (k, refl))
+refusal_is : (a : Answer sheet) → 0 < refusal_number a → (r : Refusal) × ((a ≡ machine.refused r) ⊎ ((k : ℕ) × (a ≡ machine.refused_at r k)))
+refusal_is done h = absurd (omega arith)
+refusal_is (value c) h = absurd (omega arith)
+refusal_is says_yes h = absurd (omega arith)
+refusal_is says_no h = absurd (omega arith)
+refusal_is (moved k) h = absurd (omega arith)
+refusal_is (length_is k) h = absurd (omega arith)
+refusal_is (refused r) h = (r, inl refl)
+refusal_is (refused_at r k) h = (r, inr (k, refl))
 
 -- A call of a step answers with the number of the machine's refusal.
 pub refusals_by_number : RefusalsByNumber
 refusals_by_number s xs ys a S = record {
-  no_table = λ n. ap refusal_number (meaning_one a (Refused NoTable) (S.no_table n).number);
-  refusal = λ T r e. ap refusal_number (meaning_one a (Refused r) (S.answer T ∙ e));
-  refusal_at = λ T r k e. ap refusal_number (meaning_one a (RefusedAt r k) (S.answer T ∙ e));
+  no_table = λ n. ap refusal_number ((S.no_table n).number);
+  refusal = λ T r e. ap refusal_number (S.answer T ∙ e);
+  refusal_at = λ T r k e. ap refusal_number (S.answer T ∙ e);
   no_refusal = λ T f g. go a (S.answer T) f g;
 }
   where
-    go : (b : Answer) → meaning b ≡ (s (reading xs)).answer → ((r : Refusal) → (s (reading xs)).answer ≡ machine.refused r → ⊥) → ((r : Refusal) (k : ℕ) → (s (reading xs)).answer ≡ machine.refused_at r k → ⊥) → refusal_number b ≡ 0
-    go Done e f g = refl
-    go (Value c) e f g = refl
-    go Yes e f g = refl
-    go No e f g = refl
-    go (Moved k) e f g = refl
-    go (Length k) e f g = refl
-    go (Refused r) e f g = absurd (f r (sym e))
-    go (RefusedAt r k) e f g = absurd (g r k (sym e))
+    go : (b : Answer sheet) → b ≡ (s (reading xs)).answer → ((r : Refusal) → (s (reading xs)).answer ≡ machine.refused r → ⊥) → ((r : Refusal) (k : ℕ) → (s (reading xs)).answer ≡ machine.refused_at r k → ⊥) → refusal_number b ≡ 0
+    go done e f g = refl
+    go (value c) e f g = refl
+    go says_yes e f g = refl
+    go says_no e f g = refl
+    go (moved k) e f g = refl
+    go (length_is k) e f g = refl
+    go (refused r) e f g = absurd (f r (sym e))
+    go (refused_at r k) e f g = absurd (g r k (sym e))
 
 -- The next call on words that are a table.
-module _ (xs : List ℕ) (T : IsTable xs) (a : Answer) (ys : List ℕ) where
+module _ (xs : List ℕ) (T : IsTable xs) (a : Answer sheet) (ys : List ℕ) where
   -- a refused step leaves what the words say, and so every word
   step_stays : (s : Step sheet) → Stepped (step sheet s) xs a ys → 0 < refusal_number a → ys ≡ xs
   step_stays s S h =
@@ -80,15 +75,15 @@ module _ (xs : List ℕ) (T : IsTable xs) (a : Answer) (ys : List ℕ) where
   buffer_stays : (buffer buffer' : List ℕ) → Written xs buffer a buffer' → 0 < refusal_number a → buffer' ≡ buffer
   buffer_stays buffer buffer' W h =
       let S = W.stores T in
-      ⊎_elim (λ l. (S.short l).untouched) (λ g. let z = ap refusal_number (meaning_one a (Length _) (S.answer g)) in absurd (omega arith)) (lt_or_ge (length buffer) (length (image_of_table (reading xs))))
+      ⊎_elim (λ l. (S.short l).untouched) (λ g. let z = ap refusal_number (S.answer g) in absurd (omega arith)) (lt_or_ge (length buffer) (length (image_of_table (reading xs))))
 
-  not_done : 0 < refusal_number a → a ≡ Done → ⊥
+  not_done : 0 < refusal_number a → a ≡ done → ⊥
   not_done h e = let z = ap refusal_number e in omega arith
 
   by_step : {c : Call} (s : Step sheet) → step_of_call c ≡ s ∷ [] → Stepped (step sheet s) xs a ys → Next (reading xs) c xs a ys
   by_step {c} s e S =
       record {
-        answers = subst (Every (λ s. meaning a ≡ (step sheet s (reading xs)).answer)) (sym e) (S.answer T, tt);
+        answers = subst (Every (λ s. a ≡ (step sheet s (reading xs)).answer)) (sym e) (S.answer T, tt);
         never_1 = λ _. step_never_1 s (reading xs) a (S.answer T);
         untouched = step_stays s S;
       }
@@ -96,7 +91,7 @@ module _ (xs : List ℕ) (T : IsTable xs) (a : Answer) (ys : List ℕ) where
   by_look : {c : Call} (s : Step sheet) → step_of_call c ≡ s ∷ [] → Stepped (step sheet s) xs a xs → ys ≡ xs → Next (reading xs) c xs a ys
   by_look {c} s e S q =
       record {
-        answers = subst (Every (λ s. meaning a ≡ (step sheet s (reading xs)).answer)) (sym e) (S.answer T, tt);
+        answers = subst (Every (λ s. a ≡ (step sheet s (reading xs)).answer)) (sym e) (S.answer T, tt);
         never_1 = λ _. step_never_1 s (reading xs) a (S.answer T);
         untouched = λ _. q;
       }
@@ -145,12 +140,12 @@ module _ (b : Start sheet) (ms : List Made) (xs : List ℕ) (k : AllowedStart b)
   explained_at : Explained sheet b (reading xs) (history_of b ms)
   explained_at = subst (λ (t : Table sheet). Explained sheet b t (history_of b ms)) (sym A.says) (Sheet.demand_3 b (steps_of ms))
 
-  reads_at : (d c : ℕ) (a : Answer) (ys : List ℕ) → Called (read d c) xs a ys → d < b.devices → c < b.cells → a ≡ Value (read_by b (history_of b ms) d c)
+  reads_at : (d c : ℕ) (a : Answer sheet) (ys : List ℕ) → Called (read d c) xs a ys → d < b.devices → c < b.cells → a ≡ value (read_by b (history_of b ms) d c)
   reads_at d c a ys C l m =
       let cells = explained_at.cells_stay in
-      meaning_one a (Value (read_by b (history_of b ms) d c)) (C.0.answer T ∙ (explained_at.device d l).reads c (omega arith))
+      (C.0.answer T ∙ (explained_at.device d l).reads c (omega arith))
 
-  confirms_at : (d : ℕ) (ys : List ℕ) → Called (confirmed d) xs Yes ys
+  confirms_at : (d : ℕ) (ys : List ℕ) → Called (confirmed d) xs says_yes ys
       → (((history_of b ms).past d).made ≡ mine sheet d (take ((history_of b ms).past d).pulled (history_of b ms).log)) × (((history_of b ms).past d).edits ≡ [])
   confirms_at d ys C =
       let e : (step sheet (machine.confirmed d) (reading xs)).answer ≡ machine.says_yes = sym (C.0.answer T) in
@@ -159,12 +154,12 @@ module _ (b : Start sheet) (ms : List Made) (xs : List ℕ) (k : AllowedStart b)
       let l : d < b.devices = omega arith in
       (((explained_at.device d l).confirmed_is e).0, Sheet.confirmed_nothing_open b (steps_of ms) d l (sym (ap (λ (t : Table sheet). (step sheet (machine.confirmed d) t).answer) A.says) ∙ e))
 
-  moves_at : (counts : List ℕ) (n : ℕ) (ys : List ℕ) → Called (batch counts) xs (Moved n) ys → waiting_in sheet (reading ys) b.devices + n ≡ waiting_in sheet (reading xs) b.devices
+  moves_at : (counts : List ℕ) (n : ℕ) (ys : List ℕ) → Called (batch counts) xs (moved n) ys → waiting_in sheet (reading ys) b.devices + n ≡ waiting_in sheet (reading xs) b.devices
   moves_at counts n ys C =
       subst (λ (k : ℕ). waiting_in sheet (reading ys) k + n ≡ waiting_in sheet (reading xs) k) explained_at.devices_stay
       (subst (λ (t : Table sheet). waiting_in sheet t (reading xs).devices + n ≡ waiting_in sheet (reading xs) (reading xs).devices) (sym (C.after T).says) ((Sheet.moved_is_shrinking (reading xs) counts n).batch_shrinks (sym (C.answer T))))
 
-  cuts_at : (counts : List ℕ) (reach n : ℕ) (ys : List ℕ) → Called (cut counts reach) xs (Moved n) ys
+  cuts_at : (counts : List ℕ) (reach n : ℕ) (ys : List ℕ) → Called (cut counts reach) xs (moved n) ys
       → (reading ys ≡ after_crash sheet (batched_unless0 sheet (reading xs) counts reach)) × (waiting_in sheet (batched_unless0 sheet (reading xs) counts reach) b.devices + n ≡ waiting_in sheet (reading xs) b.devices)
   cuts_at counts reach n ys C =
       let M = Sheet.moved_is_shrinking (reading xs) counts n in (
@@ -173,13 +168,12 @@ module _ (b : Start sheet) (ms : List Made) (xs : List ℕ) (k : AllowedStart b)
       )
 
   reconnects_at : (d : ℕ) → d < b.devices → idle_below b.cells ((reading xs).device d).transaction ≡ true
-      → (ns : List Made) → map (λ m. m.call) ns ≡ reconnect d → (ys zs : List ℕ) (a : Answer) → Calls xs ns ys → Called (confirmed d) ys a zs → a ≡ Yes
+      → (ns : List Made) → map (λ m. m.call) ns ≡ reconnect d → (ys zs : List ℕ) (a : Answer sheet) → Calls xs ns ys → Called (confirmed d) ys a zs → a ≡ says_yes
   reconnects_at d l idle ns e ys zs a C D =
       let B = called_steps b k ns (steps_of ms) xs ys A C (none_anew ns (subst (Every (λ c. anew c ≡ false)) (sym e) (refl, (refl, (refl, (refl, (refl, (refl, (refl, (refl, (refl, (refl, (refl, tt))))))))))))) in
       let steps : steps_of ns ≡ Claims.reconnect sheet d = by_calls ns ∙ ap steps_of_calls e in
       let says : reading ys ≡ run sheet (Claims.reconnect sheet d) (table_after sheet b (steps_of ms)) =
       B.says ∙ run_append (steps_of ms) (steps_of ns) (fresh sheet b) ∙ ap (λ (l : List (Step sheet)). run sheet l (table_after sheet b (steps_of ms))) steps in
-      meaning_one a Yes
       (D.0.answer (is_table k B) ∙ ap (λ (t : Table sheet). (step sheet (machine.confirmed d) t).answer) says
       ∙ Sheet.reconnected b (steps_of ms) d l (sym (ap (λ (t : Table sheet). idle_below b.cells (t.device d).transaction) A.says) ∙ idle))
 
@@ -220,7 +214,7 @@ each_call b ms ns m zs R =
     (p.0, p.2.0, record { first = R.first; begun = R.begun; calls = p.1; goes_on = every_first (λ m. Renews m → ⊥) ms (m ∷ ns) R.goes_on }, p.2.1, p.2.2)
 
 -- a step that leaves every table leaves every word
-leaves : (s : Step sheet) → ((t : Table sheet) → (step sheet s t).table ≡ t) → (xs ys : List ℕ) (a : Answer) → Stepped (step sheet s) xs a ys → ys ≡ xs
+leaves : (s : Step sheet) → ((t : Table sheet) → (step sheet s t).table ≡ t) → (xs ys : List ℕ) (a : Answer sheet) → Stepped (step sheet s) xs a ys → ys ≡ xs
 leaves s same xs ys a S = (either_way (IsTable xs) a a ys xs (λ T. (refl, became_same xs ys _ T (S.after T) (same (reading xs)))) (λ n. (refl, (S.no_table n).untouched))).1
 
 pub looking_leaves : LookingLeaves

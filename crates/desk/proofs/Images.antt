@@ -14,6 +14,7 @@ use Rattle.cbor.specs.Bytes.{HighFirstAt, high_first}
 use Rattle.cbor.specs.Code.{All, Here, HereEach, Within, array_of, each}
 use Rattle.cbor.specs.Head.{head_of, info_of, width_of}
 use Rattle.cbor.specs.Token.{Initial, token_of}
+use Rattle.cbor.specs.declared.major.Major.{Major}
 use Rattle.cells.specs.Finite.{finite_word}
 use Rattle.cells.specs.declared.Cell.TheVariants.{Blank, Count}
 use Rattle.desk.specs.Desk.{one_and_half, shortest, longer}
@@ -62,7 +63,7 @@ longer_least : info_of 0 ≡ 24 → ⊥
 unfolding info_of
 longer_least e = omega arith
 
-longer_initial : Initial longer 3 1 24
+longer_initial : Initial longer 3 Major.Negative 24
 longer_initial = record { within = omega arith; byte = refl; leads = inr (inl refl); low = omega arith }
 
 pub longer_refused : NotImage longer
@@ -71,4 +72,4 @@ longer_refused =
     (array_broken cell_bytes CellAllowed 1 64 longer 1 2 3 longer_three
     (broken cell_bytes CellAllowed cell_free longer 2 3 1 3 (Blank ∷ []) longer_blank (omega arith)
     (none_here cell_bytes CellAllowed cell_token (λ _. refl) cell_fits longer 3
-    (no_head longer 3 1 24 longer_initial (λ a r. no_argument longer 4 24 0 a r (omega arith) longer_byte longer_least)))))
+    (no_head longer 3 Major.Negative 24 longer_initial (λ a r. no_argument longer 4 24 0 a r (omega arith) longer_byte longer_least)))))

@@ -5,15 +5,11 @@ use Prim.Native.Nat.{ℕ}
 use native.Mathlib.Omega.{arith}
 use Rattle.protocol.specs.declared.Refusal.{Refusal}
 use Rattle.protocol.specs.declared.Refusal.TheVariants.{NoTable, OutsideAllowed, NoDevice, NoCell, NotFinite, NotEstablished, NoPush, NoChannel, NoItem, NothingToDrop, NoRequest, NoConnection, PendingFull, PushesSpent, Held, BufferShort, NoImage, NoStep}
-use Rattle.protocol.specs.Machine.{Table, Step, step}
+use Rattle.protocol.specs.Machine.{Table, Step, step, Answer, done, value, says_yes, says_no, moved, length_is, refused, refused_at}
 use Rattle.protocol.specs.Machine as machine
 use Rattle.protocol.specs.Refusals.{number_of}
 use Rattle.sheet.specs.Sheet.{sheet}
-use Rattle.sheet.specs.Answer.{meaning}
-use Rattle.sheet.specs.declared.Answer.{Answer}
-use Rattle.sheet.specs.declared.Answer.TheVariants.{Done, Value, Yes, No, Moved, Length, Refused, RefusedAt}
 use Rattle.sheet.proofs.MachineAnswers.{of_machine, is_answer, step_answers}
-use Rattle.sheet.proofs.OneAnswer.{meaning_one}
 use Rattle.desk.specs.Demand3.{refusal_number}
 
 -- no refusal of the machine's own has the number 1
@@ -37,22 +33,22 @@ own_not_1 BufferShort e q = omega arith
 own_not_1 NoImage e q = omega arith
 own_not_1 NoStep e q = omega arith
 
-answer_not_1 : (a : Answer) → is_answer (meaning a) ≡ true → refusal_number a ≡ 1 → ⊥
-answer_not_1 Done e q = omega arith
-answer_not_1 (Value c) e q = omega arith
-answer_not_1 Yes e q = omega arith
-answer_not_1 No e q = omega arith
-answer_not_1 (Moved k) e q = omega arith
-answer_not_1 (Length k) e q = omega arith
-answer_not_1 (Refused r) e q = own_not_1 r e q
-answer_not_1 (RefusedAt r k) e q = own_not_1 r e q
+answer_not_1 : (a : Answer sheet) → is_answer (a) ≡ true → refusal_number a ≡ 1 → ⊥
+answer_not_1 done e q = omega arith
+answer_not_1 (value c) e q = omega arith
+answer_not_1 says_yes e q = omega arith
+answer_not_1 says_no e q = omega arith
+answer_not_1 (moved k) e q = omega arith
+answer_not_1 (length_is k) e q = omega arith
+answer_not_1 (refused r) e q = own_not_1 r e q
+answer_not_1 (refused_at r k) e q = own_not_1 r e q
 
 -- a call that answers as a step, and one that writes an image or has no room for it
-pub step_never_1 : (s : Step sheet) (t : Table sheet) (a : Answer) → meaning a ≡ (step sheet s t).answer → refusal_number a ≡ 1 → ⊥
+pub step_never_1 : (s : Step sheet) (t : Table sheet) (a : Answer sheet) → a ≡ (step sheet s t).answer → refusal_number a ≡ 1 → ⊥
 step_never_1 s t a e = answer_not_1 a (ap is_answer e ∙ step_answers s t)
 
-pub length_never_1 : (a : Answer) (n : ℕ) → meaning a ≡ machine.length_is n → refusal_number a ≡ 1 → ⊥
+pub length_never_1 : (a : Answer sheet) (n : ℕ) → a ≡ machine.length_is n → refusal_number a ≡ 1 → ⊥
 length_never_1 a n e = answer_not_1 a (ap is_answer e)
 
-pub short_never_1 : (a : Answer) → meaning a ≡ machine.refused BufferShort → refusal_number a ≡ 1 → ⊥
-short_never_1 a e q = let z = ap refusal_number (meaning_one a (Refused BufferShort) e) in omega arith
+pub short_never_1 : (a : Answer sheet) → a ≡ machine.refused BufferShort → refusal_number a ≡ 1 → ⊥
+short_never_1 a e q = let z = ap refusal_number (e) in omega arith

@@ -14,11 +14,8 @@ use Rattle.cells.specs.Finite.{finite}
 use Rattle.cells.specs.declared.Cell.{Cell}
 use Rattle.cells.specs.declared.Cell.TheVariants.{Blank, Count, Measure}
 use Rattle.protocol.specs.declared.Refusal.TheVariants.{NoImage}
-use Rattle.protocol.specs.Machine.{Start, Table, fresh}
+use Rattle.protocol.specs.Machine.{Start, Table, fresh, Answer, done}
 use Rattle.sheet.specs.Sheet.{sheet, started}
-use Rattle.sheet.specs.Answer.{meaning}
-use Rattle.sheet.specs.declared.Answer.{Answer}
-use Rattle.sheet.specs.declared.Answer.TheVariants.{Done}
 use Rattle.sheet.proofs.OneAnswer.{done_refused}
 use Rattle.words.proofs.Places.{lt_or_ge}
 use Rattle.record.specs.Reading.{queue}
@@ -71,12 +68,12 @@ told_allowed cells numbers n =
       devices = told_listed 1 8 NumberAllowed (told_within 0 1000000) numbers (λ k. n (λ A. k A.devices));
     }
 
-module _ (bytes xs ys : List ℕ) (O : Opened bytes xs Done ys) where
+module _ (bytes xs ys : List ℕ) (O : Opened bytes xs done ys) where
   abbrev Image : Type 0
   Image = (cells : List Cell) × (numbers : List ℕ) × Allowed cells numbers × (bytes ≡ image_of cells numbers)
 
   not_none : (Image → ⊥) → ⊥
-  not_none k = done_refused (meaning Done) NoImage refl (O.no_image (λ cells numbers ok e. k (cells, numbers, ok, e))).number
+  not_none k = done_refused done NoImage refl (O.no_image (λ cells numbers ok e. k (cells, numbers, ok, e))).number
 
   -- the cells and numbers that the words then say are the image's
   abbrev cells : List Cell
@@ -86,7 +83,7 @@ module _ (bytes xs ys : List ℕ) (O : Opened bytes xs Done ys) where
   numbers = queue (reading ys).devices (reading ys).taken
 
   made : (p : Image) → Became xs ys (fresh sheet (start_of p.0 p.1))
-  made p = (O.makes p.0 p.1 p.2 p.3).after (((opening_answers bytes xs ys Done O).open_done p.0 p.1 p.2 p.3).0 refl)
+  made p = (O.makes p.0 p.1 p.2 p.3).after (((opening_answers bytes xs ys done O).open_done p.0 p.1 p.2 p.3).0 refl)
 
   cells_are : (p : Image) → cells ≡ p.0
   cells_are p = ap (λ (t : Table sheet). queue t.cells t.sheet) (made p).says ∙ queue_is Blank p.0
@@ -101,13 +98,13 @@ module _ (bytes xs ys : List ℕ) (O : Opened bytes xs Done ys) where
   bytes_are = stable (List-discrete ℕ_discrete bytes (image_of cells numbers)) (λ k. not_none (λ p. k (p.3 ∙ sym (λ i. image_of (cells_are p i) (numbers_are p i)))))
 
   opened_begins : (b : Start sheet) × Begun b ys
-  opened_begins = (start_of cells numbers, at_opening cells numbers xs ys allowed (subst (λ (s : List ℕ). Opened s xs Done ys) bytes_are O))
+  opened_begins = (start_of cells numbers, at_opening cells numbers xs ys allowed (subst (λ (s : List ℕ). Opened s xs done ys) bytes_are O))
 
 never : {X : Type 0} → (false ≡ true) × X → {Y : Type 0} → Y
 never p = absurd (false≢true p.0)
 
-begins : (c : Call) (xs ys : List ℕ) (a : Answer) → Called c xs a ys → (anew c ≡ true) × (a ≡ Done) → (b : Start sheet) × Begun b ys
-begins (start devices cells) xs ys a C R = (started devices cells, at_start devices cells xs ys (subst (λ (z : Answer). Called (start devices cells) xs z ys) R.1 C))
+begins : (c : Call) (xs ys : List ℕ) (a : Answer sheet) → Called c xs a ys → (anew c ≡ true) × (a ≡ done) → (b : Start sheet) × Begun b ys
+begins (start devices cells) xs ys a C R = (started devices cells, at_start devices cells xs ys (subst (λ (z : Answer sheet). Called (start devices cells) xs z ys) R.1 C))
 begins (update d cell u) xs ys a C R = never R
 begins (block d entries) xs ys a C R = never R
 begins (read d cell) xs ys a C R = never R
@@ -124,7 +121,7 @@ begins (batch counts) xs ys a C R = never R
 begins crash xs ys a C R = never R
 begins (cut counts reach) xs ys a C R = never R
 begins (write_image buffer buffer') xs ys a C R = never R
-begins (open_image bytes) xs ys a C R = opened_begins bytes xs ys (subst (λ (z : Answer). Opened bytes xs z ys) R.1 C)
+begins (open_image bytes) xs ys a C R = opened_begins bytes xs ys (subst (λ (z : Answer sheet). Opened bytes xs z ys) R.1 C)
 
 pub always_begins : AlwaysBegins
 always_begins m xs ys C R = begins m.call xs ys m.answer C R

@@ -8,13 +8,10 @@ use lib.ListN.{length}
 use Rattle.cbor.proofs.Codes.{all_at}
 use Rattle.cells.specs.declared.Cell.{Cell}
 use Rattle.protocol.specs.Fits.{Fits, Sizes}
-use Rattle.protocol.specs.Machine.{Start, Step, Table, step, fresh}
+use Rattle.protocol.specs.Machine.{Start, Step, Table, step, fresh, Answer, done}
 use Rattle.protocol.specs.History.{Every, table_after}
 use Rattle.sheet.specs.Sheet.{sheet}
-use Rattle.sheet.specs.Answer.{meaning}
-use Rattle.sheet.specs.declared.Answer.{Answer}
-use Rattle.sheet.specs.declared.Answer.TheVariants.{Done}
-use Rattle.sheet.proofs.OneAnswer.{meaning_one, done_refused}
+use Rattle.sheet.proofs.OneAnswer.{done_refused}
 use Rattle.sheet.proofs.Runs.{run_append}
 use Rattle.sheet.proofs.Theorem.{reached_fits}
 use Rattle.words.specs.Layout.{MOST_PUSHES}
@@ -42,24 +39,24 @@ pub is_table : {b : Start sheet} → AllowedStart b → {steps : List (Step shee
 is_table {b} k {steps} A = record { valid = A.valid; fits = subst (Fits sheet) (sym A.says) (reached_fits b steps k.sizes k.numbers) }
 
 -- A start or an opening that is refused leaves the words.
-pub start_stays : (devices cells : ℕ) (xs ys : List ℕ) (a : Answer) → Started devices cells xs a ys → (a ≡ Done → ⊥) → ys ≡ xs
+pub start_stays : (devices cells : ℕ) (xs ys : List ℕ) (a : Answer sheet) → Started devices cells xs a ys → (a ≡ done → ⊥) → ys ≡ xs
 start_stays devices cells xs ys a S n =
     (either_way (Sizes devices cells) a a ys xs
-    (λ z. (refl, ⊎_elim (λ l. (S.short z l).untouched) (λ g. absurd (n (meaning_one a Done (S.begun z g).0))) (lt_or_ge (length xs) (need devices))))
+    (λ z. (refl, ⊎_elim (λ l. (S.short z l).untouched) (λ g. absurd (n ((S.begun z g).0))) (lt_or_ge (length xs) (need devices))))
     (λ z. (refl, (S.outside z).untouched))).1
 
-pub opening_stays : (bytes xs ys : List ℕ) (a : Answer) → Opened bytes xs a ys → (a ≡ Done → ⊥) → ys ≡ xs
+pub opening_stays : (bytes xs ys : List ℕ) (a : Answer sheet) → Opened bytes xs a ys → (a ≡ done → ⊥) → ys ≡ xs
 opening_stays bytes xs ys a O n =
     (either_way ((cells : List Cell) × (numbers : List ℕ) × Allowed cells numbers × (bytes ≡ image_of cells numbers)) a a ys xs
     (λ p. (refl, made (O.makes p.0 p.1 p.2 p.3)))
     (λ z. (refl, (O.no_image (λ cells numbers ok e. z (cells, numbers, ok, e))).untouched))).1
   where
     made : {b : Start sheet} → Makes b xs a ys → ys ≡ xs
-    made {b} M = ⊎_elim (λ l. (M.short l).untouched) (λ g. absurd (n (meaning_one a Done (M.answer g)))) (lt_or_ge (length xs) (need b.devices))
+    made {b} M = ⊎_elim (λ l. (M.short l).untouched) (λ g. absurd (n (M.answer g))) (lt_or_ge (length xs) (need b.devices))
 
 module _ (b : Start sheet) (k : AllowedStart b) (steps : List (Step sheet)) where
   -- a step, and no step
-  stepped : (s : Step sheet) (xs ys : List ℕ) (a : Answer) → At b steps xs → Stepped (step sheet s) xs a ys → At b (steps ++ (s ∷ [])) ys
+  stepped : (s : Step sheet) (xs ys : List ℕ) (a : Answer sheet) → At b steps xs → Stepped (step sheet s) xs a ys → At b (steps ++ (s ∷ [])) ys
   stepped s xs ys a A S =
       let B = S.after (is_table k A) in
       record { says = B.says ∙ ap (λ (t : Table sheet). (step sheet s t).table) A.says ∙ sym (run_append steps (s ∷ []) (fresh sheet b)); valid = B.valid }
@@ -67,11 +64,11 @@ module _ (b : Start sheet) (k : AllowedStart b) (steps : List (Step sheet)) wher
   stays : (xs ys : List ℕ) → At b steps xs → ys ≡ xs → At b (steps ++ []) ys
   stays xs ys A e = subst (λ (zs : List ℕ). At b (steps ++ []) zs) (sym e) (subst (λ (l : List (Step sheet)). At b l xs) (sym (append-nil steps)) A)
 
-  looked : (s : Step sheet) (xs ys : List ℕ) (a : Answer) → At b steps xs → Stepped (step sheet s) xs a xs × (ys ≡ xs) → At b (steps ++ (s ∷ [])) ys
+  looked : (s : Step sheet) (xs ys : List ℕ) (a : Answer sheet) → At b steps xs → Stepped (step sheet s) xs a xs × (ys ≡ xs) → At b (steps ++ (s ∷ [])) ys
   looked s xs ys a A S = subst (λ (zs : List ℕ). At b (steps ++ (s ∷ [])) zs) (sym S.1) (stepped s xs xs a A S.0)
 
   -- what a call leaves is what the machine comes to by its step
-  pub called_step : (c : Call) (xs ys : List ℕ) (a : Answer) → At b steps xs → Called c xs a ys → (Renews record { call = c; answer = a } → ⊥) → At b (steps ++ step_of_call c) ys
+  pub called_step : (c : Call) (xs ys : List ℕ) (a : Answer sheet) → At b steps xs → Called c xs a ys → (Renews record { call = c; answer = a } → ⊥) → At b (steps ++ step_of_call c) ys
   called_step (start devices cells) xs ys a A C n = stays xs ys A (start_stays devices cells xs ys a C (λ e. n (refl, e)))
   called_step (update d cell u) xs ys a A C n = stepped _ xs ys a A C
   called_step (block d entries) xs ys a A C n = stepped _ xs ys a A C
@@ -111,11 +108,11 @@ sizes_hold devices cells n =
 -- Words just started or just opened are at the beginning of a run.
 pub begun_at : (b : Start sheet) (xs : List ℕ) → Begun b xs → AllowedStart b × At b [] xs
 begun_at b xs (at_start devices cells ws ys S) =
-    let z = sizes_hold devices cells (λ n. done_refused (meaning Done) _ refl (S.outside n).number) in
-    let B = ⊎_elim (λ l. absurd (done_refused (meaning Done) _ refl (S.short z l).number)) (λ g. (S.begun z g).1) (lt_or_ge (length ws) (need devices)) in
+    let z = sizes_hold devices cells (λ n. done_refused done _ refl (S.outside n).number) in
+    let B = ⊎_elim (λ l. absurd (done_refused done _ refl (S.short z l).number)) (λ g. (S.begun z g).1) (lt_or_ge (length ws) (need devices)) in
     (record { sizes = z; numbers = λ d h. omega arith }, record { says = B.says; valid = B.valid })
 begun_at b xs (at_opening cells numbers ws ys ok O) =
-    let g = ((opening_answers (image_of cells numbers) ws ys Done O).open_done cells numbers ok refl).0 refl in
+    let g = ((opening_answers (image_of cells numbers) ws ys done O).open_done cells numbers ok refl).0 refl in
     let B = (O.makes cells numbers ok refl).after g in
     let s = ok.sheet.count in
     let t = ok.devices.count in (

@@ -1,14 +1,12 @@
 -- "Each public function's promise determines its answer and the table and buffers afterwards": the public calls on lent words, each with what
--- stands in its `ensures`, and lists of them. Assumes nothing.
+-- stands in its `ensures`, said of the machine's answer, and lists of them. Assumes nothing.
 use Rattle.std.specs.Prelude.{◌≡◌, Bool, true, false, List, [], ◌∷◌, ℕ}
 use Rattle.cells.specs.declared.Cell.{Cell}
 use Rattle.cells.specs.declared.Update.{Update}
-use Rattle.protocol.specs.Machine.{Start, step}
+use Rattle.protocol.specs.Machine.{Start, step, Answer, done}
 use Rattle.protocol.specs.Machine as machine
 use Rattle.protocol.specs.History.{Every}
 use Rattle.sheet.specs.Sheet.{sheet, started}
-use Rattle.sheet.specs.declared.Answer.{Answer}
-use Rattle.sheet.specs.declared.Answer.TheVariants.{Done}
 use Rattle.device.specs.Named.{update_of}
 use Rattle.table.specs.Promise.{Stepped, Started}
 use Rattle.block.specs.Block.{updates_in}
@@ -30,7 +28,7 @@ pub data Call : Type 0 where
   open_image : (bytes : List ℕ) → Call
 
 -- On the words xs it may answer a and leave the words ys. Words that are lent only to be read are left as they are.
-abbrev pub Called : Call → List ℕ → Answer → List ℕ → Type 0
+abbrev pub Called : Call → List ℕ → Answer sheet → List ℕ → Type 0
 Called (start devices cells) xs a ys = Started devices cells xs a ys
 Called (update d cell u) xs a ys = Stepped (step sheet (machine.update d (update_of cell u))) xs a ys
 Called (block d entries) xs a ys = Stepped (step sheet (machine.block d (updates_in entries))) xs a ys
@@ -53,7 +51,7 @@ Called (open_image bytes) xs a ys = Opened bytes xs a ys
 -- A call that was made, and its answer.
 pub record Made : Type 0 where
   pub call : Call
-  pub answer : Answer
+  pub answer : Answer sheet
 
 -- Calls one after the other, from the words xs to the words ys.
 abbrev pub Calls : List ℕ → List Made → List ℕ → Type 0
@@ -83,12 +81,12 @@ anew (open_image bytes) = true
 
 -- A start or an opening that is done: the words then say another table, with a history of its own.
 abbrev pub Renews : Made → Type 0
-Renews m = (anew m.call ≡ true) × (m.answer ≡ Done)
+Renews m = (anew m.call ≡ true) × (m.answer ≡ done)
 
 -- Words just started, or just opened from an image, and what their table begins with. Bytes that are no image are never opened.
 pub data Begun : Start sheet → List ℕ → Type 0 where
-  at_start : (devices cells : ℕ) (xs ys : List ℕ) → Called (start devices cells) xs Done ys → Begun (started devices cells) ys
-  at_opening : (cells : List Cell) (numbers xs ys : List ℕ) → Allowed cells numbers → Called (open_image (image_of cells numbers)) xs Done ys → Begun (start_of cells numbers) ys
+  at_start : (devices cells : ℕ) (xs ys : List ℕ) → Called (start devices cells) xs done ys → Begun (started devices cells) ys
+  at_opening : (cells : List Cell) (numbers xs ys : List ℕ) → Allowed cells numbers → Called (open_image (image_of cells numbers)) xs done ys → Begun (start_of cells numbers) ys
 
 -- The calls of one table, refused ones too: from words just started or just opened, up to the next start or opening that is done.
 pub record Run (b : Start sheet) (ms : List Made) (xs : List ℕ) : Type 0 where

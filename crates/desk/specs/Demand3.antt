@@ -2,16 +2,13 @@
 use Rattle.std.specs.Prelude.{◌≡◌, true, false, List, [], ◌∷◌, ◌++◌, map, ℕ, ◌+◌, ◌<◌, length, take, drop, replicate}
 use Rattle.cells.specs.declared.Cell.{Cell}
 use Rattle.protocol.specs.declared.Refusal.{Refusal}
-use Rattle.protocol.specs.Machine.{Start, Step, Table, Result, step, batched_unless0, after_crash}
+use Rattle.protocol.specs.Machine.{Start, Step, Table, Result, step, batched_unless0, after_crash, Answer, done, value, says_yes, says_no, moved, length_is, refused, refused_at}
 use Rattle.protocol.specs.Machine as machine
 use Rattle.protocol.specs.History.{Every, History, apply_all, flat, mine, table_after, history_after}
 use Rattle.protocol.specs.Claims.{Explained, Onward, sheet_at, waiting_in}
 use Rattle.protocol.specs.Refusals.{number_of}
 use Rattle.sheet.specs.Changes.{idle_below}
 use Rattle.sheet.specs.Sheet.{sheet}
-use Rattle.sheet.specs.Answer.{meaning}
-use Rattle.sheet.specs.declared.Answer.{Answer}
-use Rattle.sheet.specs.declared.Answer.TheVariants.{Done, Value, Yes, No, Moved, Length, Refused, RefusedAt}
 use Rattle.device.specs.Named.{update_of}
 use Rattle.table.specs.Promise.{Stepped}
 use Rattle.table.specs.Table.{reading, IsTable}
@@ -55,18 +52,18 @@ read_by b h d =
     (sheet_at sheet b.sheet h.log (h.past d).pulled))
 
 -- The number of a refusal, and 0 of every other answer.
-abbrev pub refusal_number : Answer → ℕ
-refusal_number Done = 0
-refusal_number (Value c) = 0
-refusal_number Yes = 0
-refusal_number No = 0
-refusal_number (Moved k) = 0
-refusal_number (Length k) = 0
-refusal_number (Refused r) = number_of r
-refusal_number (RefusedAt r k) = number_of r
+abbrev pub refusal_number : Answer sheet → ℕ
+refusal_number done = 0
+refusal_number (value c) = 0
+refusal_number says_yes = 0
+refusal_number says_no = 0
+refusal_number (moved k) = 0
+refusal_number (length_is k) = 0
+refusal_number (refused r) = number_of r
+refusal_number (refused_at r k) = number_of r
 
 -- "A refusal returns its number": 1 where the contents are no table; else document 01's number of the machine's refusal, and 0 where it gives none.
-pub record ByNumber (s : Table sheet → Result sheet) (xs : List ℕ) (a : Answer) : Type 0 where
+pub record ByNumber (s : Table sheet → Result sheet) (xs : List ℕ) (a : Answer sheet) : Type 0 where
   pub no_table : (IsTable xs → ⊥) → refusal_number a ≡ 1
   pub refusal : IsTable xs → (r : Refusal) → (s (reading xs)).answer ≡ machine.refused r → refusal_number a ≡ number_of r
   pub refusal_at : IsTable xs → (r : Refusal) (k : ℕ) → (s (reading xs)).answer ≡ machine.refused_at r k → refusal_number a ≡ number_of r
@@ -74,12 +71,12 @@ pub record ByNumber (s : Table sheet → Result sheet) (xs : List ℕ) (a : Answ
       → ((r : Refusal) (k : ℕ) → (s (reading xs)).answer ≡ machine.refused_at r k → ⊥) → refusal_number a ≡ 0
 
 abbrev pub RefusalsByNumber : Type 0
-RefusalsByNumber = (s : Table sheet → Result sheet) (xs ys : List ℕ) (a : Answer) → Stepped s xs a ys → ByNumber s xs a
+RefusalsByNumber = (s : Table sheet → Result sheet) (xs ys : List ℕ) (a : Answer sheet) → Stepped s xs a ys → ByNumber s xs a
 
 -- What a call on the words xs, which say the table t, answers, and what it leaves where it is refused.
-pub record Next (t : Table sheet) (c : Call) (xs : List ℕ) (a : Answer) (ys : List ℕ) : Type 0 where
+pub record Next (t : Table sheet) (c : Call) (xs : List ℕ) (a : Answer sheet) (ys : List ℕ) : Type 0 where
   -- the machine's answer, where the call is a step of the machine
-  pub answers : Every (λ s. meaning a ≡ (step sheet s t).answer) (step_of_call c)
+  pub answers : Every (λ s. a ≡ (step sheet s t).answer) (step_of_call c)
   -- "Every reached table is one, so 1 never comes from it": a start's or an opening's 1 is about the room for what it is to make
   pub never_1 : anew c ≡ false → refusal_number a ≡ 1 → ⊥
   -- "A refusal .. leaves table .. untouched": every word
@@ -99,23 +96,23 @@ pub record Reached (b : Start sheet) (ms : List Made) (xs : List ℕ) : Type 0 w
   -- knows is a beginning of it (protocol, specs/Claims.antt)
   pub explained : Explained sheet b (reading xs) (history_of b ms)
   -- whatever is called next, refused or not
-  pub next : (c : Call) (a : Answer) (ys : List ℕ) → Called c xs a ys → Next (reading xs) c xs a ys
+  pub next : (c : Call) (a : Answer sheet) (ys : List ℕ) → Called c xs a ys → Next (reading xs) c xs a ys
   -- ".. and output buffer untouched"
-  pub buffer_untouched : (buffer buffer' : List ℕ) (a : Answer) (ys : List ℕ) → Called (write_image buffer buffer') xs a ys → 0 < refusal_number a → buffer' ≡ buffer
+  pub buffer_untouched : (buffer buffer' : List ℕ) (a : Answer sheet) (ys : List ℕ) → Called (write_image buffer buffer') xs a ys → 0 < refusal_number a → buffer' ≡ buffer
   -- each read's value
-  pub reads : (d c : ℕ) (a : Answer) (ys : List ℕ) → Called (read d c) xs a ys → d < b.devices → c < b.cells → a ≡ Value (read_by b (history_of b ms) d c)
+  pub reads : (d c : ℕ) (a : Answer sheet) (ys : List ℕ) → Called (read d c) xs a ys → d < b.devices → c < b.cells → a ≡ value (read_by b (history_of b ms) d c)
   -- each yes of confirmed: all that the device pushed stands in the beginning that it knows, and it has no open edit
-  pub confirms : (d : ℕ) (ys : List ℕ) → Called (confirmed d) xs Yes ys
+  pub confirms : (d : ℕ) (ys : List ℕ) → Called (confirmed d) xs says_yes ys
       → (((history_of b ms).past d).made ≡ mine sheet d (take ((history_of b ms).past d).pulled (history_of b ms).log)) × (((history_of b ms).past d).edits ≡ [])
   -- each `moved`: "it equals the rounds by which the waiting lists shrink, in `cut` before its crash"
-  pub moves : (counts : List ℕ) (k : ℕ) (ys : List ℕ) → Called (batch counts) xs (Moved k) ys → waiting_in sheet (reading ys) b.devices + k ≡ waiting_in sheet (reading xs) b.devices
-  pub cuts : (counts : List ℕ) (reach k : ℕ) (ys : List ℕ) → Called (cut counts reach) xs (Moved k) ys
+  pub moves : (counts : List ℕ) (k : ℕ) (ys : List ℕ) → Called (batch counts) xs (moved k) ys → waiting_in sheet (reading ys) b.devices + k ≡ waiting_in sheet (reading xs) b.devices
+  pub cuts : (counts : List ℕ) (reach k : ℕ) (ys : List ℕ) → Called (cut counts reach) xs (moved k) ys
       → (reading ys ≡ after_crash sheet (batched_unless0 sheet (reading xs) counts reach)) × (waiting_in sheet (batched_unless0 sheet (reading xs) counts reach) b.devices + k ≡ waiting_in sheet (reading xs) b.devices)
   -- later calls of the same table: list and pushes only grow at their ends, and no device goes back to a shorter beginning
   pub onward : (more : List Made) → Onward sheet (history_of b ms) (history_of b (ms ++ more))
   -- reconnecting ends in confirmed yes, whatever is refused on the way
   pub reconnects : (d : ℕ) → d < b.devices → idle_below b.cells ((reading xs).device d).transaction ≡ true
-      → (ns : List Made) → map (λ m. m.call) ns ≡ reconnect d → (ys zs : List ℕ) (a : Answer) → Calls xs ns ys → Called (confirmed d) ys a zs → a ≡ Yes
+      → (ns : List Made) → map (λ m. m.call) ns ≡ reconnect d → (ys zs : List ℕ) (a : Answer sheet) → Calls xs ns ys → Called (confirmed d) ys a zs → a ≡ says_yes
 
 -- demand 3, for every list of calls
 abbrev pub Demand3OverCalls : Type 0
@@ -131,5 +128,5 @@ AlwaysBegins = (m : Made) (xs ys : List ℕ) → Called m.call xs m.answer ys �
 
 -- Read and confirmed, of which the calls lend the words only to be read, leave every word as it is: no outcome of the machine's step has others.
 abbrev pub LookingLeaves : Type 0
-LookingLeaves = (d c : ℕ) (xs ys : List ℕ) (a : Answer)
+LookingLeaves = (d c : ℕ) (xs ys : List ℕ) (a : Answer sheet)
     → (Stepped (step sheet (machine.read d c)) xs a ys → ys ≡ xs) × (Stepped (step sheet (machine.confirmed d)) xs a ys → ys ≡ xs)

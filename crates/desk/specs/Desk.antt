@@ -9,11 +9,10 @@ use Rattle.cells.specs.declared.Change.{Change}
 use Rattle.cells.specs.declared.Change.TheVariants.{Nothing, Set, Add}
 use Rattle.cells.specs.declared.Update.{Update}
 use Rattle.protocol.specs.declared.Refusal.TheVariants.{NoCell, PendingFull, NoImage}
-use Rattle.protocol.specs.Machine.{Device, run, fresh, update, push, send, ask, accept, receive, pull, read, done, value, refused}
+use Rattle.protocol.specs.Machine.{Device, run, fresh, update, push, send, ask, accept, receive, pull, read, done, value, refused, Answer}
 use Rattle.protocol.specs.Plays.{◌gives◌, Plays}
 use Rattle.protocol.specs.Plays.{Line as Play}
 use Rattle.sheet.specs.Sheet.{sheet, started}
-use Rattle.sheet.specs.declared.Answer.{Answer}
 use Rattle.device.specs.Named.{update_of}
 use Rattle.table.specs.Promise.{RefusedWith}
 use Rattle.coding.specs.Image.{image_of, Allowed}
@@ -36,7 +35,7 @@ abbrev pub Holds : Line → Type 0
 Holds (adding c n r) = added c n ≡ r
 Holds (joining a b r) = joined a b ≡ r
 Holds (stored cells numbers bytes) = Allowed cells numbers × (image_of cells numbers ≡ bytes)
-Holds (no_image bytes) = (xs ys : List ℕ) (a : Answer) → Opened bytes xs a ys → RefusedWith NoImage xs a ys
+Holds (no_image bytes) = (xs ys : List ℕ) (a : Answer sheet) → Opened bytes xs a ys → RefusedWith NoImage xs a ys
 Holds (running devices cells plays covered buffered pending) =
     Plays sheet (fresh sheet (started devices cells)) plays × ((after devices cells plays).covered ≡ covered) × ((after devices cells plays).buffered 0 ≡ buffered) × (map (λ r. r.number) (after devices cells plays).pending ≡ pending)
 

@@ -5,9 +5,8 @@ use Prim.Native.Nat.{ℕ, ◌+◌, ◌*◌, ◌-◌, ◌≤◌}
 use native.Mathlib.Omega.{arith}
 use lib.ListN.{length, get_or, set, length-set}
 use borrow.Author.Tests.{lt-ltb}
-use Rattle.protocol.specs.Machine.{prefix, established, above, receive_at}
+use Rattle.protocol.specs.Machine.{prefix, established, above, receive_at, done}
 use Rattle.sheet.specs.Sheet.{sheet}
-use Rattle.sheet.specs.declared.Answer.TheVariants.{Done}
 use Rattle.words.specs.Layout.{QUEUE, ROUND, ITEM, ITEM_NUMBERS, ITEM_PLACES, PREFIX, ESTABLISHED, CHANNEL, REQUEST, CONNECTION, PENDING_LENGTH, WAITING_LENGTH, ITEMS_LENGTH, RECEIVED, PENDING, WAITING, ITEMS, RECORD}
 use Rattle.words.specs.Place.{Out}
 use Rattle.words.proofs.Places.{set_kept, set_new}
@@ -105,5 +104,5 @@ module _ (devices cells : ℕ) (xs : List ℕ) (d : ℕ) (A : Receivable devices
       pub prefix_items : HasItems devices cells (set y2 CHANNEL ESTABLISHED)
       prefix_items = has_items devices cells xs (set y2 CHANNEL ESTABLISHED) A.recorded _ _ _ prefix_buffered A.one
 
-      pub prefix_received : (end : List ℕ) → length end ≡ RECORD → Requeued (item_entry devices cells) (set y2 CHANNEL ESTABLISHED) end ITEMS_LENGTH ITEMS (items_behind devices cells (set y2 CHANNEL ESTABLISHED)) → Did devices cells (receive_at sheet d) xs Done end
+      pub prefix_received : (end : List ℕ) → length end ≡ RECORD → Requeued (item_entry devices cells) (set y2 CHANNEL ESTABLISHED) end ITEMS_LENGTH ITEMS (items_behind devices cells (set y2 CHANNEL ESTABLISHED)) → Did devices cells (receive_at sheet d) xs done end
       prefix_received end len P = receive_done devices cells xs (set y2 CHANNEL ESTABLISHED) A.recorded _ _ _ prefix_buffered end len P d (first_item devices cells xs A.recorded d _ A.channel A.one (prefix_is devices cells xs ITEMS e))

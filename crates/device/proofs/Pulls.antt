@@ -7,9 +7,8 @@ use native.Mathlib.Omega.{arith}
 use lib.ListN.{length, get_or, set, length-set}
 use Rattle.cells.specs.Cells.{applied}
 use Rattle.cells.specs.declared.Cell.TheVariants.{Blank}
-use Rattle.protocol.specs.Machine.{Item, Device, fine, sheet_after, gives, beyond, pull_at}
+use Rattle.protocol.specs.Machine.{Item, Device, fine, sheet_after, gives, beyond, pull_at, done}
 use Rattle.sheet.specs.Sheet.{sheet}
-use Rattle.sheet.specs.declared.Answer.TheVariants.{Done}
 use Rattle.words.specs.Layout.{CELL, CHANGE, QUEUE, ROUND, ITEM_NUMBERS, ITEM_PLACES, PREFIX, LAST, TAKEN, COVERED, PENDING_LENGTH, WAITING_LENGTH, ITEMS_LENGTH, KNOWN, TRANSACTION, RECEIVED, PENDING, WAITING, RECORD}
 use Rattle.words.specs.Place.{cell_place, change_place, cell_at, change_at, Beside, Filled, Kept, Out, Valid}
 use Rattle.words.proofs.Places.{set_kept, set_new, cell_local}
@@ -57,7 +56,7 @@ module _ (devices cells : ℕ) (xs : List ℕ) (R : IsRecord devices cells xs) (
   step_is i e = ap (λ (o : Option (Item sheet)). fine (pulled o)) e
 
   -- with an empty buffer nothing changes
-  pub pull_nothing : get_or xs RECEIVED 0 ≡ 0 → Did devices cells (pull_at sheet d) xs Done xs
+  pub pull_nothing : get_or xs RECEIVED 0 ≡ 0 → Did devices cells (pull_at sheet d) xs done xs
   unfolding pulled
   pull_nothing e = did_parts devices cells (pull_at sheet d) xs xs (device_of devices cells xs) (step_is none empty ∙ ap fine all) (parts_of devices cells xs R.valid) refl (λ i n. refl)
     where
@@ -132,5 +131,5 @@ module _ (devices cells : ℕ) (xs : List ℕ) (R : IsRecord devices cells xs) (
           let k = past_singles devices cells y3 i n in
           Q.kept i (λ e. omega arith) (λ j h u. n (InUse.pending j h u.0 u.1)) ∙ keep2 i (λ e. n (rw e InUse.buffer_kind)) (λ p q. n (InUse.known p q))
 
-      pub pull_done : Did devices cells (pull_at sheet d) xs Done y3
+      pub pull_done : Did devices cells (pull_at sheet d) xs done y3
       pull_done = did_parts devices cells (pull_at sheet d) xs y3 (pulled (some (item_at devices cells xs RECEIVED))) (step_is _ received_is) parts (single TAKEN (omega arith) (λ e. omega arith)) kept_is

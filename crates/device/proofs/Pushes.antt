@@ -9,9 +9,8 @@ use borrow.Author.Tests.{le-leb, lt-leb}
 use Rattle.cells.specs.Cells.{joined}
 use Rattle.cells.specs.declared.Change.TheVariants.{Nothing}
 use Rattle.protocol.specs.declared.Refusal.TheVariants.{PushesSpent}
-use Rattle.protocol.specs.Machine.{Device, fine, push_at}
+use Rattle.protocol.specs.Machine.{Device, fine, push_at, done, refused}
 use Rattle.sheet.specs.Sheet.{sheet}
-use Rattle.sheet.specs.declared.Answer.TheVariants.{Done, Refused}
 use Rattle.words.specs.Layout.{CHANGE, LAST, TAKEN, COVERED, PENDING_LENGTH, WAITING_LENGTH, ITEMS_LENGTH, TRANSACTION, BUFFERED, RECEIVED, RECORD}
 use Rattle.words.specs.Place.{change_place, change_at, Filled, Out}
 use Rattle.words.proofs.Places.{set_kept, set_new, change_local}
@@ -23,9 +22,9 @@ use Rattle.queues.proofs.Parts.{Parts, did_parts, places_put, places_kept, words
 use Rattle.record.proofs.Steps.{told}
 
 -- Past the last number nothing changes.
-pub push_refused : (devices cells : ℕ) (xs : List ℕ) → IsRecord devices cells xs → 1000000 ≤ get_or xs LAST 0 → Did devices cells (push_at sheet) xs (Refused PushesSpent) xs
+pub push_refused : (devices cells : ℕ) (xs : List ℕ) → IsRecord devices cells xs → 1000000 ≤ get_or xs LAST 0 → Did devices cells (push_at sheet) xs (refused PushesSpent) xs
 unfolding push_at device_of
-push_refused devices cells xs R h = told devices cells (push_at sheet) xs (Refused PushesSpent) R (rw (le-leb 1000000 (get_or xs LAST 0) h) refl)
+push_refused devices cells xs R h = told devices cells (push_at sheet) xs (refused PushesSpent) R (rw (le-leb 1000000 (get_or xs LAST 0) h) refl)
 
 -- y1 has the transaction joined to the push buffer, y2 the transaction cleared.
 module _ (devices cells : ℕ) (xs y1 y2 : List ℕ) (R : IsRecord devices cells xs) (h : get_or xs LAST 0 < 1000000) (J : Filled change_place xs y1 BUFFERED cells (λ k. joined (change_at xs (BUFFERED + CHANGE * k)) (change_at xs (TRANSACTION + CHANGE * k)))) (C : Filled change_place y1 y2 TRANSACTION cells (λ k. Nothing)) (len : length y2 ≡ RECORD) where
@@ -91,7 +90,7 @@ module _ (devices cells : ℕ) (xs y1 y2 : List ℕ) (R : IsRecord devices cells
   kept_is : (i : ℕ) → (InUse devices cells end i → ⊥) → get_or end i 0 ≡ get_or xs i 0
   kept_is i n = keep i (λ e. n (InUse.single (omega arith))) (λ e. n (InUse.single (omega arith))) (λ l b. n (InUse.transaction l b)) (λ l b. n (InUse.buffered l b))
 
-  pub push_done : Did devices cells (push_at sheet) xs Done (set (set y2 LAST (get_or xs LAST 0 + 1)) COVERED (get_or xs COVERED 0 + 1))
+  pub push_done : Did devices cells (push_at sheet) xs done (set (set y2 LAST (get_or xs LAST 0 + 1)) COVERED (get_or xs COVERED 0 + 1))
   push_done = unfold end y3 in (did_parts devices cells (push_at sheet) xs end pushed step_is parts (ahead TAKEN (omega arith) (λ e. omega arith) (λ e. omega arith)) kept_is)
     where
       step_is : push_at sheet (device_of devices cells xs) ≡ fine pushed

@@ -6,9 +6,8 @@ use Prim.Native.Nat.{ℕ, zero, suc, ◌+◌, ◌*◌, ◌≤◌, ◌<◌}
 use native.Mathlib.Omega.{arith}
 use lib.ListN.{length, get_or, drop}
 use Rattle.protocol.specs.declared.Refusal.TheVariants.{NoChannel, NoItem}
-use Rattle.protocol.specs.Machine.{Channel, Item, Round, fine, gotten, take_first, receive_at}
+use Rattle.protocol.specs.Machine.{Channel, Item, Round, fine, gotten, take_first, receive_at, done, refused}
 use Rattle.sheet.specs.Sheet.{sheet}
-use Rattle.sheet.specs.declared.Answer.TheVariants.{Done, Refused}
 use Rattle.words.specs.Layout.{CHANGE, QUEUE, ROUND, ROUND_CHANGES, ITEM, LAST, TAKEN, CHANNEL, COVERED, PENDING_LENGTH, WAITING_LENGTH, ITEMS_LENGTH, KNOWN, RECEIVED, PENDING, WAITING, ITEMS, RECORD}
 use Rattle.words.specs.Place.{Out}
 use Rattle.record.specs.Reading.{queue, item_at, link_of, device_of}
@@ -30,9 +29,9 @@ first_of zero f h = absurd (omega arith)
 first_of (suc n) f h = let e = queue_first n f in e ∙ ap (λ q. f 0 ∷ drop 1 q) (sym e)
 
 module _ (devices cells : ℕ) (xs : List ℕ) (R : IsRecord devices cells xs) (d : ℕ) where
-  pub receive_no_channel : get_or xs CHANNEL 0 ≡ 0 → Did devices cells (receive_at sheet d) xs (Refused NoChannel) xs
+  pub receive_no_channel : get_or xs CHANNEL 0 ≡ 0 → Did devices cells (receive_at sheet d) xs (refused NoChannel) xs
   unfolding receive_at device_of link_of
-  receive_no_channel e = told devices cells (receive_at sheet d) xs (Refused NoChannel) R (rw e refl)
+  receive_no_channel e = told devices cells (receive_at sheet d) xs (refused NoChannel) R (rw e refl)
 
   -- with a channel it is what the first item makes
   on_channel : (get_or xs CHANNEL 0 ≡ 0 → ⊥) → receive_at sheet d (device_of devices cells xs) ≡ take_first sheet d (items_of devices cells xs) (device_of devices cells xs)
@@ -44,8 +43,8 @@ module _ (devices cells : ℕ) (xs : List ℕ) (R : IsRecord devices cells xs) (
       go (suc zero) m e = rw e refl
       go (suc (suc k)) m e = rw e refl
 
-  pub receive_no_item : (get_or xs CHANNEL 0 ≡ 0 → ⊥) → get_or xs ITEMS_LENGTH 0 ≡ 0 → Did devices cells (receive_at sheet d) xs (Refused NoItem) xs
-  receive_no_item n e = told devices cells (receive_at sheet d) xs (Refused NoItem) R (on_channel n ∙ ap (λ (q : List (Item sheet)). take_first sheet d q (device_of devices cells xs)) (empty_queue (get_or xs ITEMS_LENGTH 0) _ e))
+  pub receive_no_item : (get_or xs CHANNEL 0 ≡ 0 → ⊥) → get_or xs ITEMS_LENGTH 0 ≡ 0 → Did devices cells (receive_at sheet d) xs (refused NoItem) xs
+  receive_no_item n e = told devices cells (receive_at sheet d) xs (refused NoItem) R (on_channel n ∙ ap (λ (q : List (Item sheet)). take_first sheet d q (device_of devices cells xs)) (empty_queue (get_or xs ITEMS_LENGTH 0) _ e))
 
   pub first_item : (i : Item sheet) → (get_or xs CHANNEL 0 ≡ 0 → ⊥) → 0 < get_or xs ITEMS_LENGTH 0 → item_at devices cells xs ITEMS ≡ i → receive_at sheet d (device_of devices cells xs) ≡ take_first sheet d (i ∷ items_behind devices cells xs) (device_of devices cells xs)
   first_item i n h e =
@@ -123,5 +122,5 @@ module _ (devices cells : ℕ) (xs y : List ℕ) (R : IsRecord devices cells xs)
         Q.kept i (λ e. omega arith) (λ j h u. n (InUse.items j h u))
         ∙ B.kept i k (λ u. n (InUse.received (omega (arith, B.valid.kind_from_1)) (in_item_same devices cells y end RECEIVED r i u))) (λ j h p q. n (InUse.waiting j (omega arith) p q))
 
-    pub receive_done : (d : ℕ) → receive_at sheet d (device_of devices cells xs) ≡ fine (gotten sheet (some v) c w (items_behind devices cells xs) (device_of devices cells xs)) → Did devices cells (receive_at sheet d) xs Done end
+    pub receive_done : (d : ℕ) → receive_at sheet d (device_of devices cells xs) ≡ fine (gotten sheet (some v) c w (items_behind devices cells xs) (device_of devices cells xs)) → Did devices cells (receive_at sheet d) xs done end
     receive_done d e = did_parts devices cells (receive_at sheet d) xs end _ e parts (single TAKEN (omega arith) (λ e. omega arith) (λ e. omega arith) (λ e. omega arith)) kept_is

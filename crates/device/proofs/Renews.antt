@@ -6,10 +6,8 @@ use Prim.Native.Nat.{ℕ, zero, suc, ◌≤◌, ◌<◌}
 use native.Mathlib.Omega.{arith}
 use lib.ListN.{length, get_or, set, length-set}
 use Rattle.protocol.specs.declared.Refusal.TheVariants.{NothingToDrop}
-use Rattle.protocol.specs.Machine.{choose, unheld, stale, Link, is_held, with_link, renewed, ask_at, drop_at}
+use Rattle.protocol.specs.Machine.{choose, unheld, stale, Link, is_held, with_link, renewed, ask_at, drop_at, Answer, done, refused}
 use Rattle.sheet.specs.Sheet.{sheet}
-use Rattle.sheet.specs.declared.Answer.{Answer}
-use Rattle.sheet.specs.declared.Answer.TheVariants.{Done, Refused}
 use Rattle.words.specs.Layout.{ASKED, ESTABLISHED, STALE, LAST, TAKEN, CHANNEL, REQUEST, CONNECTION, COVERED, PENDING_LENGTH, WAITING_LENGTH, ITEMS_LENGTH, KNOWN, WAITING, RECORD}
 use Rattle.words.proofs.Places.{set_kept, set_new}
 use Rattle.record.specs.Reading.{channel_of, connection_of, request_of, link_of, device_of}
@@ -74,8 +72,8 @@ module _ (devices cells : ℕ) (xs : List ℕ) (channel request : ℕ) (R : IsRe
         items = record { is = empty_queue _ _ no_items; few = rw no_items (omega arith); valid = λ j h. absurd (omega (arith, no_items)) };
       }
 
-      done : Did devices cells (renew_at (channel_of channel) (request_of request)) xs Done end
-      done =
+      did_so : Did devices cells (renew_at (channel_of channel) (request_of request)) xs done end
+      did_so =
           did_parts devices cells (renew_at (channel_of channel) (request_of request)) xs end (with_link sheet (device_of devices cells xs) after) (unfold after in refl) parts
           (keep TAKEN (λ e. omega arith) (λ e. omega arith) (λ e. omega arith) (λ e. omega arith) (λ e. omega arith))
           (λ i n. behind i (past_singles devices cells end i n))
@@ -93,19 +91,19 @@ module _ (devices cells : ℕ) (xs : List ℕ) (channel request : ℕ) (R : IsRe
   held_is b e = (ap (λ h. choose h stale unheld) e, ap (λ h. choose h (device_of devices cells xs).link.waiting []) e)
 
   -- no connection is held: none is now, and no round waits
-  pub renew_unheld : get_or xs CONNECTION 0 ≡ 0 → Did devices cells (renew_at (channel_of channel) (request_of request)) xs Done (set (set (set (set xs CHANNEL channel) REQUEST request) ITEMS_LENGTH 0) WAITING_LENGTH 0)
+  pub renew_unheld : get_or xs CONNECTION 0 ≡ 0 → Did devices cells (renew_at (channel_of channel) (request_of request)) xs done (set (set (set (set xs CHANNEL channel) REQUEST request) ITEMS_LENGTH 0) WAITING_LENGTH 0)
   renew_unheld e = unfold y3 y2 y1 in did
     where
-      did : Did devices cells (renew_at (channel_of channel) (request_of request)) xs Done (set y3 WAITING_LENGTH 0)
+      did : Did devices cells (renew_at (channel_of channel) (request_of request)) xs done (set y3 WAITING_LENGTH 0)
       did =
           let w = set_kept y3 WAITING_LENGTH 0 CONNECTION (λ e. omega arith) ∙ before_last CONNECTION (omega arith) (λ e. omega arith) ∙ e in
           let z = set_new y3 WAITING_LENGTH 0 (omega (arith, size_is)) in
           let h = held_is false (ap (λ (k : ℕ). is_held (connection_of k)) e) in
-          done (set y3 WAITING_LENGTH 0) (λ i a b. set_kept y3 WAITING_LENGTH 0 i b) (simp length-set size_is) (omega (arith, w)) (ap connection_of w ∙ sym h.0)
+          did_so (set y3 WAITING_LENGTH 0) (λ i a b. set_kept y3 WAITING_LENGTH 0 i b) (simp length-set size_is) (omega (arith, w)) (ap connection_of w ∙ sym h.0)
           record { is = empty_queue _ _ z ∙ sym h.1; few = rw z (omega arith); valid = λ j l. absurd (omega (arith, z)) }
 
   -- a connection is held: it is stale now, and its rounds wait
-  pub renew_held : (get_or xs CONNECTION 0 ≡ 0 → ⊥) → Did devices cells (renew_at (channel_of channel) (request_of request)) xs Done (set (set (set (set xs CHANNEL channel) REQUEST request) ITEMS_LENGTH 0) CONNECTION STALE)
+  pub renew_held : (get_or xs CONNECTION 0 ≡ 0 → ⊥) → Did devices cells (renew_at (channel_of channel) (request_of request)) xs done (set (set (set (set xs CHANNEL channel) REQUEST request) ITEMS_LENGTH 0) CONNECTION STALE)
   renew_held n = unfold y3 y2 y1 in did
     where
       stays_held : (k : ℕ) → (k ≡ 0 → ⊥) → is_held (connection_of k) ≡ true
@@ -116,20 +114,20 @@ module _ (devices cells : ℕ) (xs : List ℕ) (channel request : ℕ) (R : IsRe
       same : (i : ℕ) → CONNECTION < i → (i ≡ ITEMS_LENGTH → ⊥) → get_or (set y3 CONNECTION STALE) i 0 ≡ get_or xs i 0
       same i l n = set_kept y3 CONNECTION STALE i (λ e. omega arith) ∙ before_last i (omega arith) n
 
-      did : Did devices cells (renew_at (channel_of channel) (request_of request)) xs Done (set y3 CONNECTION STALE)
+      did : Did devices cells (renew_at (channel_of channel) (request_of request)) xs done (set y3 CONNECTION STALE)
       did =
           let w = set_new y3 CONNECTION STALE (omega (arith, size_is)) in
           let h = held_is true (stays_held (get_or xs CONNECTION 0) n) in
-          done (set y3 CONNECTION STALE) (λ i a b. set_kept y3 CONNECTION STALE i a) (simp length-set size_is) (omega (arith, w)) (ap connection_of w ∙ sym h.0)
+          did_so (set y3 CONNECTION STALE) (λ i a b. set_kept y3 CONNECTION STALE i a) (simp length-set size_is) (omega (arith, w)) (ap connection_of w ∙ sym h.0)
           (rw h.1 (waiting_stays devices cells xs (set y3 CONNECTION STALE) R (same WAITING_LENGTH (omega arith) (λ e. omega arith)) (λ i p q. same i (omega arith) (λ e. omega arith))))
 
 -- A device without a channel has nothing to drop; with one, it drops it.
 module _ (devices cells : ℕ) (xs : List ℕ) where
-  pub drop_refused : IsRecord devices cells xs → get_or xs CHANNEL 0 ≡ 0 → Did devices cells (drop_at sheet) xs (Refused NothingToDrop) xs
+  pub drop_refused : IsRecord devices cells xs → get_or xs CHANNEL 0 ≡ 0 → Did devices cells (drop_at sheet) xs (refused NothingToDrop) xs
   unfolding drop_at device_of link_of
-  drop_refused R e = told devices cells (drop_at sheet) xs (Refused NothingToDrop) R (rw e refl)
+  drop_refused R e = told devices cells (drop_at sheet) xs (refused NothingToDrop) R (rw e refl)
 
-  pub drop_done : (ys : List ℕ) (a : Answer) → (get_or xs CHANNEL 0 ≡ 0 → ⊥) → Did devices cells (renew_at (channel_of 0) (request_of 0)) xs a ys → Did devices cells (drop_at sheet) xs a ys
+  pub drop_done : (ys : List ℕ) (a : Answer sheet) → (get_or xs CHANNEL 0 ≡ 0 → ⊥) → Did devices cells (renew_at (channel_of 0) (request_of 0)) xs a ys → Did devices cells (drop_at sheet) xs a ys
   unfolding drop_at device_of link_of
   drop_done ys a n D = did_as devices cells (renew_at (channel_of 0) (request_of 0)) (drop_at sheet) xs ys a (go (get_or xs CHANNEL 0) n refl) D
     where
@@ -138,6 +136,6 @@ module _ (devices cells : ℕ) (xs : List ℕ) where
       go (suc zero) n e = rw e refl
       go (suc (suc k)) n e = rw e refl
 
-  pub ask_done : (ys : List ℕ) (a : Answer) → Did devices cells (renew_at (channel_of ASKED) (request_of 1)) xs a ys → Did devices cells (ask_at sheet) xs a ys
+  pub ask_done : (ys : List ℕ) (a : Answer sheet) → Did devices cells (renew_at (channel_of ASKED) (request_of 1)) xs a ys → Did devices cells (ask_at sheet) xs a ys
   unfolding ask_at
   ask_done ys a D = did_as devices cells (renew_at (channel_of ASKED) (request_of 1)) (ask_at sheet) xs ys a refl D

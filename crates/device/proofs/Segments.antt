@@ -5,9 +5,8 @@ use mathlib.Core.Option.{Option, none, some}
 use Prim.Native.Nat.{ℕ, ◌+◌, ◌<◌}
 use native.Mathlib.Omega.{arith}
 use lib.ListN.{length, get_or}
-use Rattle.protocol.specs.Machine.{Item, segment, buffer, fine, gotten, receive_at}
+use Rattle.protocol.specs.Machine.{Item, segment, buffer, fine, gotten, receive_at, done}
 use Rattle.sheet.specs.Sheet.{sheet}
-use Rattle.sheet.specs.declared.Answer.TheVariants.{Done}
 use Rattle.words.specs.Layout.{ITEM, ITEM_NUMBERS, ITEM_PLACES, SEGMENT, WAITING_LENGTH, ITEMS_LENGTH, RECEIVED, ITEMS, RECORD}
 use Rattle.words.specs.Place.{Out}
 use Rattle.record.specs.Reading.{changes_at, given_at, item_at, received_at, device_of}
@@ -54,7 +53,7 @@ module _ (devices cells : ℕ) (xs : List ℕ) (d : ℕ) (A : Receivable devices
   pub segment_items : HasItems devices cells y
   segment_items = has_items devices cells xs y A.recorded _ _ _ segment_buffered A.one
 
-  pub segment_received : (end : List ℕ) → length end ≡ RECORD → Requeued (item_entry devices cells) y end ITEMS_LENGTH ITEMS (items_behind devices cells y) → Did devices cells (receive_at sheet d) xs Done end
+  pub segment_received : (end : List ℕ) → length end ≡ RECORD → Requeued (item_entry devices cells) y end ITEMS_LENGTH ITEMS (items_behind devices cells y) → Did devices cells (receive_at sheet d) xs done end
   unfolding item
   segment_received end size P =
       receive_done devices cells xs y A.recorded _ _ _ segment_buffered end size P d

@@ -9,9 +9,8 @@ use lib.ListN.{length, get_or, set, length-set}
 use borrow.Author.Tests.{le-leb, lt-leb, eq-eqb, ne_eqb}
 use Rattle.cells.specs.declared.Change.TheVariants.{Nothing}
 use Rattle.protocol.specs.declared.Refusal.TheVariants.{NotEstablished, NoPush, PendingFull}
-use Rattle.protocol.specs.Machine.{fine, unless, is_established, sent_from, round_of, send_at}
+use Rattle.protocol.specs.Machine.{fine, unless, is_established, sent_from, round_of, send_at, done, refused}
 use Rattle.sheet.specs.Sheet.{sheet}
-use Rattle.sheet.specs.declared.Answer.TheVariants.{Done, Refused}
 use Rattle.words.specs.Layout.{CHANGE, QUEUE, ROUND, ESTABLISHED, LAST, TAKEN, CHANNEL, COVERED, PENDING_LENGTH, WAITING_LENGTH, ITEMS_LENGTH, KNOWN, BUFFERED, RECEIVED, PENDING, WAITING, ITEMS, RECORD}
 use Rattle.words.specs.Place.{change_place, Filled, Out}
 use Rattle.words.proofs.Places.{set_kept, set_new, change_local}
@@ -36,18 +35,18 @@ module _ (devices cells : ℕ) (xs : List ℕ) (R : IsRecord devices cells xs) w
       (λ i. unless sheet (not (p i)) NotEstablished (unless sheet (q i) NoPush (unless sheet (leb 8 (queue_length (get_or xs PENDING_LENGTH 0) (λ j. round_at cells xs (PENDING + ROUND * j)) i)) PendingFull (fine (sent_from sheet (device_of devices cells xs))))))
       ∙ ap (λ (t : Bool). unless sheet (not a) NotEstablished (unless sheet b NoPush (unless sheet t PendingFull (fine (sent_from sheet (device_of devices cells xs)))))) r
 
-  pub send_not_established : (get_or xs CHANNEL 0 ≡ ESTABLISHED → ⊥) → Did devices cells (send_at sheet) xs (Refused NotEstablished) xs
-  send_not_established n = told devices cells (send_at sheet) xs (Refused NotEstablished) R (step_is false _ _ (is_not_established (get_or xs CHANNEL 0) R.valid.channel n) refl refl)
+  pub send_not_established : (get_or xs CHANNEL 0 ≡ ESTABLISHED → ⊥) → Did devices cells (send_at sheet) xs (refused NotEstablished) xs
+  send_not_established n = told devices cells (send_at sheet) xs (refused NotEstablished) R (step_is false _ _ (is_not_established (get_or xs CHANNEL 0) R.valid.channel n) refl refl)
 
   module _ (e : get_or xs CHANNEL 0 ≡ ESTABLISHED) where
     established_is : is_established (channel_of (get_or xs CHANNEL 0)) ≡ true
     established_is = ap (λ (k : ℕ). is_established (channel_of k)) e
 
-    pub send_no_push : get_or xs COVERED 0 ≡ 0 → Did devices cells (send_at sheet) xs (Refused NoPush) xs
-    send_no_push z = told devices cells (send_at sheet) xs (Refused NoPush) R (step_is true true _ established_is (eq-eqb _ 0 z) refl)
+    pub send_no_push : get_or xs COVERED 0 ≡ 0 → Did devices cells (send_at sheet) xs (refused NoPush) xs
+    send_no_push z = told devices cells (send_at sheet) xs (refused NoPush) R (step_is true true _ established_is (eq-eqb _ 0 z) refl)
 
-    pub send_full : (get_or xs COVERED 0 ≡ 0 → ⊥) → QUEUE ≤ get_or xs PENDING_LENGTH 0 → Did devices cells (send_at sheet) xs (Refused PendingFull) xs
-    send_full n h = told devices cells (send_at sheet) xs (Refused PendingFull) R (step_is true false true established_is (ne_eqb _ 0 n) (le-leb 8 _ h))
+    pub send_full : (get_or xs COVERED 0 ≡ 0 → ⊥) → QUEUE ≤ get_or xs PENDING_LENGTH 0 → Did devices cells (send_at sheet) xs (refused PendingFull) xs
+    send_full n h = told devices cells (send_at sheet) xs (refused PendingFull) R (step_is true false true established_is (ne_eqb _ 0 n) (le-leb 8 _ h))
 
   module _ (room : get_or xs PENDING_LENGTH 0 < QUEUE) where
     pub first_addable : Addable cells xs PENDING_LENGTH PENDING
@@ -154,7 +153,7 @@ module _ (devices cells : ℕ) (xs : List ℕ) (R : IsRecord devices cells xs) w
             ∙ Q2.kept i (λ e. omega arith) (λ j h u. n (InUse.waiting j (omega arith) u.0 u.1))
             ∙ Q1.kept i (λ e. omega arith) (λ j h u. n (InUse.pending j (omega arith) u.0 u.1))
 
-        pub send_done : get_or xs CHANNEL 0 ≡ ESTABLISHED → (get_or xs COVERED 0 ≡ 0 → ⊥) → Did devices cells (send_at sheet) xs Done (set y3 COVERED 0)
+        pub send_done : get_or xs CHANNEL 0 ≡ ESTABLISHED → (get_or xs COVERED 0 ≡ 0 → ⊥) → Did devices cells (send_at sheet) xs done (set y3 COVERED 0)
         send_done e n = unfold end in
             (did_parts devices cells (send_at sheet) xs end (sent_from sheet (device_of devices cells xs)) (step_is true false false (established_is e) (ne_eqb _ 0 n) (lt-leb 8 _ room)) parts
             (single TAKEN (omega arith) (λ e. omega arith) (λ e. omega arith) (λ e. omega arith)) kept_is)

@@ -15,11 +15,10 @@ use Rattle.cells.specs.declared.Change.TheVariants.{Nothing}
 use Rattle.cells.specs.declared.Update.{Update}
 use Rattle.cells.proofs.StoredForm.{joined_finite}
 use Rattle.protocol.specs.declared.Refusal.TheVariants.{NoCell, NotFinite}
-use Rattle.protocol.specs.Machine.{choose, update_at}
+use Rattle.protocol.specs.Machine.{choose, update_at, done, refused}
 use Rattle.protocol.specs.Machine as machine
 use Rattle.sheet.specs.Changes.{one_change}
 use Rattle.sheet.specs.Sheet.{sheet}
-use Rattle.sheet.specs.declared.Answer.TheVariants.{Done, Refused}
 use Rattle.words.specs.Layout.{CHANGE, LAST, TAKEN, COVERED, PENDING_LENGTH, WAITING_LENGTH, ITEMS_LENGTH, TRANSACTION, BUFFERED, RECORD}
 use Rattle.words.specs.Place.{change_place, change_at, change_ok, Put}
 use Rattle.words.proofs.Places.{Same, lt_or_ge, change_local, change_is_finite}
@@ -40,13 +39,13 @@ pub stores_update : (xs : List ℕ) (o : ℕ) (u : Update) {a b r : Change} → 
 stores_update xs o u ok f p q e = ap change_finite (e ∙ (λ i. joined (p i) (q i))) ∙ joined_finite (change_at xs o) (change_of u) (change_is_finite xs o ok) (update_is_finite u f)
 
 module _ (devices cells : ℕ) (xs : List ℕ) (R : IsRecord devices cells xs) (d cell : ℕ) (u : Update) where
-  pub update_no_cell : cells ≤ cell → Did devices cells (update_at sheet cells d (update_of cell u)) xs (Refused NoCell) xs
+  pub update_no_cell : cells ≤ cell → Did devices cells (update_at sheet cells d (update_of cell u)) xs (refused NoCell) xs
   unfolding update_at
-  update_no_cell h = told devices cells (update_at sheet cells d (update_of cell u)) xs (Refused NoCell) R (rw (le-leb cells cell h) refl)
+  update_no_cell h = told devices cells (update_at sheet cells d (update_of cell u)) xs (refused NoCell) R (rw (le-leb cells cell h) refl)
 
-  pub update_not_finite : cell < cells → update_finite u ≡ false → Did devices cells (update_at sheet cells d (update_of cell u)) xs (Refused NotFinite) xs
+  pub update_not_finite : cell < cells → update_finite u ≡ false → Did devices cells (update_at sheet cells d (update_of cell u)) xs (refused NotFinite) xs
   unfolding update_at
-  update_not_finite h e = told devices cells (update_at sheet cells d (update_of cell u)) xs (Refused NotFinite) R (rw (lt-leb cells cell h, e) refl)
+  update_not_finite h e = told devices cells (update_at sheet cells d (update_of cell u)) xs (refused NotFinite) R (rw (lt-leb cells cell h, e) refl)
 
   module _ (ys : List ℕ) (h : cell < cells) (ok : update_finite u ≡ true) (len : length ys ≡ RECORD) (v : Change) (e : v ≡ joined (change_at xs (TRANSACTION + CHANGE * cell)) (change_of u)) (W : Put change_place xs ys (TRANSACTION + CHANGE * cell) v) where
     few : cells ≤ 64
@@ -96,7 +95,7 @@ module _ (devices cells : ℕ) (xs : List ℕ) (R : IsRecord devices cells xs) (
       items = items_stay devices cells xs ys R (ahead ITEMS_LENGTH (omega arith)) (λ i p q. behind i (omega arith));
     }
 
-    pub update_done : Did devices cells (update_at sheet cells d (update_of cell u)) xs Done ys
+    pub update_done : Did devices cells (update_at sheet cells d (update_of cell u)) xs done ys
     unfolding update_at
     update_done =
         did_parts devices cells (update_at sheet cells d (update_of cell u)) xs ys (machine.joined sheet (update_of cell u) (device_of devices cells xs)) (rw (lt-leb cells cell h, ok) refl) parts (ahead TAKEN (omega arith))

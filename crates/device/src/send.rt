@@ -2,33 +2,36 @@
 ghost use Rattle.protocol.specs.Machine.{send_at};
 ghost use Rattle.record.specs.Valid.{IsRecord};
 ghost use Rattle.sheet.specs.Sheet.{sheet};
+ghost use Rattle.sheet.specs.Answer.{meaning};
 ghost use Rattle.record.specs.Did.{Did};
 
+use cells::Change;
 use protocol::Refusal;
 use queues::round::add_round;
 use sheet::Answer;
+use words::extent::Extent;
 use words::layout::{
     BUFFERED, CHANNEL, COVERED, ESTABLISHED, PENDING, PENDING_LENGTH, QUEUE, WAITING,
     WAITING_LENGTH,
 };
-use words::run::clear_changes;
+use words::run::fill;
 
-pub fn send(r: &mut [u64], devices: usize, cells: usize) -> Answer
-    requires { IsRecord devices cells r.old }
-    ensures { Did devices cells (send_at sheet) r.old result r.new }
+pub fn send(r: &mut [u64], extent: Extent) -> Result<Answer, Refusal>
+    requires { IsRecord extent.devices extent.cells r.old }
+    ensures { Did extent.devices extent.cells (send_at sheet) r.old (meaning result) r.new }
 {
     if r[CHANNEL] != ESTABLISHED {
-        return Answer::Refused(Refusal::NotEstablished);
+        return Err(Refusal::NotEstablished);
     }
     if r[COVERED] == 0 {
-        return Answer::Refused(Refusal::NoPush);
+        return Err(Refusal::NoPush);
     }
     if r[PENDING_LENGTH] >= QUEUE as u64 {
-        return Answer::Refused(Refusal::PendingFull);
+        return Err(Refusal::PendingFull);
     }
-    add_round(r, PENDING_LENGTH, PENDING, cells);
-    add_round(r, WAITING_LENGTH, WAITING, cells);
-    clear_changes(r, BUFFERED, cells);
+    add_round(r, PENDING_LENGTH, PENDING, extent.cells);
+    add_round(r, WAITING_LENGTH, WAITING, extent.cells);
+    fill(r, BUFFERED, extent.cells, Change::Nothing);
     r[COVERED] = 0;
-    Answer::Done
+    Ok(Answer::Done)
 }

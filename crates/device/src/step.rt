@@ -3,6 +3,7 @@ ghost use Rattle.std.specs.Prelude.{◌<◌};
 ghost use Rattle.record.specs.Valid.{IsRecord};
 ghost use Rattle.record.specs.Did.{Did};
 ghost use Rattle.device.specs.Named.{step_of};
+ghost use Rattle.sheet.specs.Answer.{meaning};
 
 use crate::ask::ask;
 use crate::give_up::give_up;
@@ -12,10 +13,12 @@ use crate::receive::receive;
 use crate::send::send;
 use crate::update::update;
 use cells::Update;
+use protocol::Refusal;
 use sheet::Answer;
+use words::extent::Extent;
 
 // A step of one device; an update names its cell.
-#[derive(Clone, Copy)]
+#[derive(Clone, Copy, Debug, PartialEq)]
 pub enum Operation {
     Update(u64, Update),
     Push,
@@ -28,21 +31,20 @@ pub enum Operation {
 
 pub fn on_record(
     r: &mut [u64],
-    devices: usize,
-    cells: usize,
+    extent: Extent,
     d: usize,
     operation: Operation,
-) -> Answer
-    requires { IsRecord devices cells r.old × (d < devices) }
-    ensures { Did devices cells (step_of cells d operation) r.old result r.new }
+) -> Result<Answer, Refusal>
+    requires { IsRecord extent.devices extent.cells r.old × (d < extent.devices) }
+    ensures { Did extent.devices extent.cells (step_of extent.cells d operation) r.old (meaning result) r.new }
 {
     match operation {
-        Operation::Update(cell, u) => update(r, devices, cells, cell, u),
-        Operation::Push => push(r, devices, cells),
-        Operation::Send => send(r, devices, cells),
-        Operation::Ask => ask(r, devices, cells),
-        Operation::Drop => give_up(r, devices, cells),
-        Operation::Receive => receive(r, devices, cells, d),
-        Operation::Pull => pull(r, devices, cells, d),
+        Operation::Update(cell, u) => update(r, extent, cell, u),
+        Operation::Push => push(r, extent),
+        Operation::Send => send(r, extent),
+        Operation::Ask => Ok(ask(r, extent)),
+        Operation::Drop => give_up(r, extent),
+        Operation::Receive => receive(r, extent, d),
+        Operation::Pull => Ok(pull(r, extent, d)),
     }
 }

@@ -3,30 +3,32 @@ ghost use Rattle.std.specs.Prelude.{ℕ};
 ghost use Rattle.protocol.specs.Machine.{update_at};
 ghost use Rattle.record.specs.Valid.{IsRecord};
 ghost use Rattle.sheet.specs.Sheet.{sheet};
+ghost use Rattle.sheet.specs.Answer.{meaning};
 ghost use Rattle.record.specs.Did.{Did};
 ghost use Rattle.device.specs.Named.{update_of};
 
-use cells::Update;
 use cells::joining::{change_of, join};
 use cells::stored::is_finite_update;
+use cells::{Change, Update};
 use protocol::Refusal;
 use sheet::Answer;
+use words::extent::Extent;
 use words::layout::TRANSACTION;
-use words::place::{get_change, put_change};
+use words::place::{get, put};
 
-pub fn update(r: &mut [u64], devices: usize, cells: usize, cell: u64, u: Update) -> Answer
-    requires { IsRecord devices cells r.old }
+pub fn update(r: &mut [u64], extent: Extent, cell: u64, u: Update) -> Result<Answer, Refusal>
+    requires { IsRecord extent.devices extent.cells r.old }
     // for every d: whether a cell update is refused does not depend on the device
-    ensures { (d : ℕ) → Did devices cells (update_at sheet cells d (update_of cell u)) r.old result r.new }
+    ensures { (d : ℕ) → Did extent.devices extent.cells (update_at sheet extent.cells d (update_of cell u)) r.old (meaning result) r.new }
 {
-    if cell >= cells as u64 {
-        return Answer::Refused(Refusal::NoCell);
+    if cell >= extent.cells as u64 {
+        return Err(Refusal::NoCell);
     }
     if !is_finite_update(u) {
-        return Answer::Refused(Refusal::NotFinite);
+        return Err(Refusal::NotFinite);
     }
     let k = cell as usize;
-    let before = get_change(r, TRANSACTION, k);
-    put_change(r, TRANSACTION, k, join(before, change_of(u)));
-    Answer::Done
+    let before = get::<Change>(r, TRANSACTION, k);
+    put(r, TRANSACTION, k, join(before, change_of(u)));
+    Ok(Answer::Done)
 }

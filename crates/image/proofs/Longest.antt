@@ -22,8 +22,10 @@ use Rattle.coding.specs.Image.{Allowed, NumberAllowed, image_of}
 use Rattle.coding.specs.Item.{CellAllowed, cell_bytes, cell_token}
 use Rattle.coding.proofs.Meaning.{measure_allowed}
 use Rattle.image.specs.Claims.{Longest, LongestReached}
+use Rattle.image.specs.Words.{Stored, image_at}
+use Rattle.image.specs.declared.writing.Places.{Places}
 use Rattle.image.proofs.Queued.{all_queue, length_array}
-use Rattle.image.proofs.Parts.{image_length}
+use Rattle.image.proofs.Parts.{image_length, stored_allowed}
 
 -- how long a head is, by the bound of its argument
 length_number : (m a : ℕ) → a ≤ 1000000 → length (head_of m a) ≤ 5
@@ -56,6 +58,9 @@ longest cs ns al =
       al.sheet.count.1,
       al.devices.count.1,
     ))
+
+pub stored_longest : (words numbers : List ℕ) (p : Places) → Stored words numbers p → length (image_at words numbers p) ≤ 620
+stored_longest words numbers p v = longest _ _ (stored_allowed words numbers p v)
 
 -- which 64 measured numbers and 8 numbers whose heads have five bytes reach
 length_same : {A : Type 0} (f : A → List ℕ) (a : A) (n : ℕ) → length (each f (queue n (λ _. a))) ≡ n * length (f a)

@@ -9,11 +9,9 @@ use lib.Seq.{take_all, take-suc}
 use borrow.Author.Tests.{le-ltb, lt-ltb}
 use Rattle.cells.specs.declared.Cell.TheVariants.{Blank}
 use Rattle.protocol.specs.Fits.{Sizes}
-use Rattle.protocol.specs.Machine.{Start, fresh}
+use Rattle.protocol.specs.Machine.{Start, fresh, Answer, done, refused}
 use Rattle.protocol.specs.declared.Refusal.TheVariants.{NoImage, NoTable}
 use Rattle.sheet.specs.Sheet.{sheet}
-use Rattle.sheet.specs.declared.Answer.{Answer}
-use Rattle.sheet.specs.declared.Answer.TheVariants.{Done, Refused}
 use Rattle.words.specs.Layout.{CELLS, DEVICES, KNOWN, SHEET}
 use Rattle.words.specs.Place.{Filled, cell_place}
 use Rattle.words.proofs.Places.{filled_as, lt_or_ge}
@@ -26,7 +24,7 @@ use Rattle.table.specs.Promise.{Became, Begins}
 use Rattle.table.specs.Table.{need}
 use Rattle.table.proofs.Records.{below_in}
 use Rattle.table.proofs.Starts.{started_is}
-use Rattle.coding.specs.Image.{NotImage}
+use Rattle.coding.specs.Image.{Allowed, NotImage}
 use Rattle.image.specs.Promise.{Makes, Opened, start_of}
 use Rattle.image.specs.Read.{ImageOf}
 use Rattle.image.specs.Words.{cell_in, cells_of, numbers_of}
@@ -70,11 +68,11 @@ module _ (words numbers : List ℕ) (cells devices : ℕ) where
   })
 
   module _ (xs : List ℕ) where
-    makes_as : (a : Answer) (ys : List ℕ) → Makes held xs a ys → Makes (start_of (cells_of words cells) (numbers_of numbers devices)) xs a ys
+    makes_as : (a : Answer sheet) (ys : List ℕ) → Makes held xs a ys → Makes (start_of (cells_of words cells) (numbers_of numbers devices)) xs a ys
     makes_as a ys M = subst (λ (b : Start sheet). Makes b xs a ys) held_is M
 
-    pub makes_short : length xs < need devices → Makes (start_of (cells_of words cells) (numbers_of numbers devices)) xs (Refused NoTable) xs
-    makes_short h = makes_as (Refused NoTable) xs (unfold held in (record { short = λ l. record { number = refl; untouched = refl }; answer = λ l. absurd (omega arith); after = λ l. absurd (omega arith) }))
+    pub makes_short : length xs < need devices → Makes (start_of (cells_of words cells) (numbers_of numbers devices)) xs (refused NoTable) xs
+    makes_short h = makes_as (refused NoTable) xs (unfold held in (record { short = λ l. record { number = refl; untouched = refl }; answer = λ l. absurd (omega arith); after = λ l. absurd (omega arith) }))
 
     module _ (y1 y2 : List ℕ) (Z : Sizes devices cells) (long : need devices ≤ length xs) (l1 : length y1 ≡ length xs) (l2 : length y2 ≡ length xs) (B : Begins cells (sheet_at cells words 0) (λ d. get_or numbers d 0) xs y1 devices) (F : Filled cell_place y1 y2 SHEET cells (cell_in words 0)) where
       begun : Begins cells (sheet_at cells words 0) (below devices (λ d. get_or numbers d 0) 0) xs y1 devices
@@ -90,24 +88,24 @@ module _ (words numbers : List ℕ) (cells devices : ℕ) where
       unfolding held
       made = started_is held xs y1 y2 (unfold places_at in (past_cut cells (cell_in words 0) Blank)) (past_cut devices (λ d. get_or numbers d 0) 0) Z long l1 l2 begun filled
 
-      pub makes_table : Makes (start_of (cells_of words cells) (numbers_of numbers devices)) xs Done (set (set y2 DEVICES devices) CELLS cells)
-      makes_table = makes_as Done (set (set y2 DEVICES devices) CELLS cells) (record { short = λ l. (unfold held in absurd (omega arith)); answer = λ l. refl; after = λ l. made })
+      pub makes_table : Makes (start_of (cells_of words cells) (numbers_of numbers devices)) xs done (set (set y2 DEVICES devices) CELLS cells)
+      makes_table = makes_as done (set (set y2 DEVICES devices) CELLS cells) (record { short = λ l. (unfold held in absurd (omega arith)); answer = λ l. refl; after = λ l. made })
 
 -- The two ways in which the bytes are judged.
-pub opened_none : (bytes xs : List ℕ) → NotImage bytes → Opened bytes xs (Refused NoImage) xs
+pub opened_none : (bytes xs : List ℕ) → NotImage bytes → Opened bytes xs (refused NoImage) xs
 opened_none bytes xs n = record { no_image = λ m. record { number = refl; untouched = refl }; makes = λ cells numbers ok e. absurd (n cells numbers ok e) }
 
-pub opened_image : (bytes words numbers : List ℕ) (cells devices : ℕ) (xs : List ℕ) (a : Answer) (ys : List ℕ) → ImageOf bytes words numbers cells devices → Makes (start_of (cells_of words cells) (numbers_of numbers devices)) xs a ys → Opened bytes xs a ys
+pub opened_image : (bytes words numbers : List ℕ) (cells devices : ℕ) (xs : List ℕ) (a : Answer sheet) (ys : List ℕ) → ImageOf bytes words numbers cells devices → Makes (start_of (cells_of words cells) (numbers_of numbers devices)) xs a ys → Opened bytes xs a ys
 opened_image bytes words numbers cells devices xs a ys I M = record {
   no_image = λ n. absurd (n (cells_of words cells) (numbers_of numbers devices) I.allowed I.is);
   makes = λ cs ns ok e. let q = image_inj (cells_of words cells) cs (numbers_of numbers devices) ns I.allowed ok (sym I.is ∙ e) in rw (q.0, q.1) at M;
 }
 
 -- An image's buffers hold allowed numbers of cells and of devices.
-pub image_sizes : (bytes words numbers : List ℕ) (cells devices : ℕ) → ImageOf bytes words numbers cells devices → Sizes devices cells
-image_sizes bytes words numbers cells devices I =
+pub allowed_sizes : (words numbers : List ℕ) (cells devices : ℕ) → Allowed (cells_of words cells) (numbers_of numbers devices) → Sizes devices cells
+allowed_sizes words numbers cells devices A =
     let n = queue_length cells (cell_in words 0) in
     let d = queue_length devices (λ d. get_or numbers d 0) in
-    let s = I.allowed.sheet.count in
-    let t = I.allowed.devices.count in
+    let s = A.sheet.count in
+    let t = A.devices.count in
     record { devices_from_1 = omega arith; devices_to_8 = omega arith; cells_from_1 = omega arith; cells_to_64 = omega arith }

@@ -13,7 +13,7 @@ use Rattle.record.specs.Reading.{queue}
 use Rattle.record.proofs.Queues.{queue_length}
 use Rattle.coding.specs.Image.{Allowed, NumberAllowed, image_of}
 use Rattle.coding.specs.Item.{CellAllowed, cell_bytes}
-use Rattle.image.specs.Words.{Stored, cell_in, number_in}
+use Rattle.image.specs.Words.{image_at, Stored, cell_in, number_in}
 use Rattle.image.specs.declared.writing.Places.{Places}
 use Rattle.image.proofs.Queued.{all_queue}
 use Rattle.image.proofs.Runs.{cell_in_allowed}
@@ -31,6 +31,10 @@ module _ (cs : List Cell) (ns : List ℕ) where
       let n = image_length in
       let a1 = w1.next in
       wrote_then (omega arith) w1 (wrote_then (omega arith) w2 w3)
+
+-- as they lie in lent words
+pub part_lengths : (words numbers : List ℕ) (p : Places) → length (image_at words numbers p) ≡ length (head_of 4 2) + (length (array_of cell_bytes (queue p.cells (cell_in words p.sheet))) + length (array_of (head_of 0) (queue p.devices (number_in numbers p.first p.stride))))
+part_lengths words numbers p = image_length (queue p.cells (cell_in words p.sheet)) (queue p.devices (number_in numbers p.first p.stride))
 
 -- what lies in places that hold allowed things is allowed
 pub stored_allowed : (words numbers : List ℕ) (p : Places) → Stored words numbers p → Allowed (queue p.cells (cell_in words p.sheet)) (queue p.devices (number_in numbers p.first p.stride))

@@ -11,11 +11,12 @@ use Rattle.cbor.specs.Code.{Here, HereEach}
 use Rattle.cells.proofs.StoredForm.{words_cell_fits}
 use Rattle.cells.specs.declared.Cell.{Cell}
 use Rattle.words.specs.Layout.{CELL}
-use Rattle.words.specs.Place.{Put, Valid, cell_at, cell_ok, cell_place}
-use Rattle.words.proofs.Places.{Same, below_suc, cell_local}
+use Rattle.words.specs.Place.{Put, words_at, cell_ok, cell_place}
+use Rattle.words.proofs.Places.{Same, cell_local}
 use Rattle.record.specs.Reading.{queue}
 use Rattle.record.proofs.Same.{queue_same}
 use Rattle.coding.specs.Item.{CellAllowed}
+use Rattle.image.specs.Element.{Appended, CellReady}
 use Rattle.image.specs.Words.{CellsAt, cell_in}
 
 -- The values passed are those that a buffer holds: g before the next one is stored, h after.
@@ -35,13 +36,19 @@ module _ (xs ys : List ℕ) (i : ℕ) (c : Cell) (W : Put cell_place xs ys (0 + 
   before : (k : ℕ) → k < i → Same xs ys (0 + CELL * k) CELL
   before k h j p q = W.kept j (λ a b. omega arith)
 
-  pub cells_stay : (k : ℕ) → k < i → cell_in ys 0 k ≡ cell_in xs 0 k
-  cells_stay k h = cell_local.value_same xs ys (0 + CELL * k) (before k h)
-
-  pub valid_more : Valid cell_place xs 0 i → Valid cell_place ys 0 (i + 1)
-  valid_more ok = below_suc {P = λ k. cell_ok ys (0 + CELL * k) ≡ true} i (λ k h. cell_local.valid_same xs ys (0 + CELL * k) (before k h) ∙ ok k h) W.valid
+  pub cell_appended : Appended CELL (λ words. cell_in words 0) (λ words k. cell_ok words (0 + CELL * k) ≡ true) xs ys i c
+  cell_appended = record {
+    is = W.is;
+    sound = W.valid;
+    stays = λ k h. cell_local.value_same xs ys (0 + CELL * k) (before k h);
+    sound_stays = λ k h ok. cell_local.valid_same xs ys (0 + CELL * k) (before k h) ∙ ok;
+    kept = λ j o. W.kept j (λ a b. o (omega arith) (omega arith));
+  }
 
 -- The cells of a run are allowed.
 pub cell_in_allowed : (words : List ℕ) (from n i : ℕ) → CellsAt words from n → i < n → CellAllowed (cell_in words from i)
-unfolding cell_at cell_ok
+unfolding words_at
 cell_in_allowed words from n i v h = let w = words_cell_fits (get_or words (from + CELL * i) 0) (get_or words (from + CELL * i + 1) 0) (v.valid i h) in record { fits = w.0; finite = w.1 }
+
+pub cell_ready : (words : List ℕ) (from n i : ℕ) → CellsAt words from n → i < n → CellReady words (from + CELL * i)
+cell_ready words from n i v h = record { room = omega (arith, v.room); valid = v.valid i h; allowed = cell_in_allowed words from n i v h }

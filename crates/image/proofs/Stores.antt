@@ -2,14 +2,12 @@
 use mathlib.Core.List.{List, ◌++◌}
 use mathlib.Core.Path.{◌∙◌, ◌≡◌, ap, refl, sym}
 use Prim.Native.Nat.{◌*◌, ◌+◌, ◌<◌, ◌≤◌, ℕ}
-use native.Mathlib.Nat.{zero-add}
 use native.Mathlib.Omega.{arith}
 use lib.ListN.{drop, get_or, length}
-use Rattle.cbor.specs.Bytes.{put}
 use Rattle.cells.specs.declared.Cell.TheVariants.{Blank}
 use Rattle.protocol.specs.declared.Refusal.TheVariants.{BufferShort, NoTable}
-use Rattle.sheet.specs.declared.Answer.{Answer}
-use Rattle.sheet.specs.declared.Answer.TheVariants.{Length, Refused}
+use Rattle.protocol.specs.Machine.{Answer, length_is, refused}
+use Rattle.sheet.specs.Sheet.{sheet}
 use Rattle.words.specs.Layout.{CELLS, DEVICES, RECORD, RECORDS, SHEET, TAKEN}
 use Rattle.record.specs.Reading.{places_at, queue}
 use Rattle.record.proofs.Same.{queue_same}
@@ -23,14 +21,11 @@ use Rattle.image.specs.Words.{Stored, cell_in, image_at, number_in}
 use Rattle.image.specs.declared.writing.Places.{Places}
 
 -- The two ways in which the buffer's front is written, or not.
-pub stores_short : (v old : List ℕ) → length old < length v → Stores v old (Refused BufferShort) old
+pub stores_short : (v old : List ℕ) → length old < length v → Stores v old (refused BufferShort) old
 stores_short v old h = record { short = λ l. record { number = refl; untouched = refl }; answer = λ l. absurd (omega arith); after = λ l. absurd (omega arith) }
 
-pub stores_front : (v old new : List ℕ) (n : ℕ) → n ≡ length v → length v ≤ length old → new ≡ put old 0 v → Stores v old (Length n) new
-stores_front v old new n e h w = record { short = λ l. absurd (omega arith); answer = λ l. rw e refl; after = λ l. w ∙ front }
-  where
-    front : put old 0 v ≡ v ++ drop (length v) old
-    front = unfold put in (ap (λ (k : ℕ). v ++ drop k old) (zero-add (length v)))
+pub stores_front : (v w old : List ℕ) (n : ℕ) → n ≡ length v → w ≡ v → length v ≤ length old → Stores v old (length_is n) (w ++ drop n old)
+stores_front v w old n e f h = rw (e, f) (record { short = λ l. absurd (omega arith); answer = λ l. refl; after = λ l. refl })
 
 -- Where the cells and numbers of a table lie.
 abbrev pub places_of : List ℕ → Places
@@ -69,8 +64,8 @@ module _ (xs : List ℕ) where
         allowed = λ d h. let f = (record_of xs T d h).fits in let w = record_word xs d TAKEN (omega arith) in rw (number_word d) (omega (arith, f.taken_to_last, f.last_in_range), omega (arith, f.taken_to_last, f.last_in_range), omega (arith, f.taken_to_last, f.last_in_range));
       }
 
-  pub written_none : (old : List ℕ) → (IsTable xs → ⊥) → Written xs old (Refused NoTable) old
+  pub written_none : (old : List ℕ) → (IsTable xs → ⊥) → Written xs old (refused NoTable) old
   written_none old n = record { no_table = λ m. record { number = refl; untouched = refl }; stores = λ T. absurd (n T) }
 
-  pub written_table : (old new : List ℕ) (a : Answer) → IsTable xs → Stores (image_at xs xs (places_of xs)) old a new → Written xs old a new
+  pub written_table : (old new : List ℕ) (a : Answer sheet) → IsTable xs → Stores (image_at xs xs (places_of xs)) old a new → Written xs old a new
   written_table old new a T S = record { no_table = λ n. absurd (n T); stores = λ t. rw image_read at S }

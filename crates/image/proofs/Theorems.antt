@@ -17,8 +17,7 @@ use Rattle.protocol.specs.Machine as machine
 use Rattle.protocol.specs.declared.Refusal.{Refusal}
 use Rattle.protocol.specs.declared.Refusal.TheVariants.{BufferShort, NoImage, NoTable}
 use Rattle.sheet.specs.Sheet.{sheet}
-use Rattle.sheet.specs.declared.Answer.TheVariants.{Length}
-use Rattle.sheet.proofs.OneAnswer.{meaning_one, done_refused}
+use Rattle.sheet.proofs.OneAnswer.{done_refused}
 use Rattle.sheet.proofs.Theorem.{reached_fits}
 use Rattle.words.specs.Layout.{CELLS, DEVICES, SHEET, TAKEN}
 use Rattle.words.proofs.Places.{lt_or_ge}
@@ -139,20 +138,20 @@ image_back : (cells : List Cell) (numbers xs ys : List ℕ) → Became xs ys (fr
 image_back cells numbers xs ys B = ap image_of_table B.says ∙ (λ i. image_of (queue_is Blank cells i) (queue_is 0 numbers i))
 
 pub opened_written : OpenedWritten
-opened_written bytes xs ys old new a b O e W long = either_way (Image bytes) b (Length (length bytes)) new (bytes ++ drop (length bytes) old)
+opened_written bytes xs ys old new a b O e W long = either_way (Image bytes) b (length_is (length bytes)) new (bytes ++ drop (length bytes) old)
     (λ p. image p)
     (λ n. absurd (done_refused _ _ e (O.no_image (none bytes n)).number))
   where
-    image : Image bytes → (b ≡ Length (length bytes)) × (new ≡ bytes ++ drop (length bytes) old)
+    image : Image bytes → (b ≡ length_is (length bytes)) × (new ≡ bytes ++ drop (length bytes) old)
     image p =
         let g = ((opening_answers bytes xs ys a O).open_done p.0 p.1 p.2 p.3).0 e in
         let T = (opened_table p.0 p.1 xs ys a p.2 (subst (λ (s : List ℕ). Opened s xs a ys) p.3 O) e).is_table in
         let S = subst (λ (s : List ℕ). Stores s old b new) (image_back p.0 p.1 xs ys ((O.makes p.0 p.1 p.2 p.3).after g) ∙ sym p.3) (W.stores T) in
-        (meaning_one b (Length (length bytes)) (S.answer long), S.after long)
+        (S.answer long, S.after long)
 
 pub one_writing : OneWriting
 one_writing xs old new other a b A B = either_way (IsTable xs) a b new other
-    (λ T. ⊎_elim (λ l. refused_once BufferShort old new other a b ((A.stores T).short l) ((B.stores T).short l)) (λ g. (meaning_one a b ((A.stores T).answer g ∙ sym ((B.stores T).answer g)), (A.stores T).after g ∙ sym ((B.stores T).after g))) (lt_or_ge (length old) (length (image_of_table (reading xs)))))
+    (λ T. ⊎_elim (λ l. refused_once BufferShort old new other a b ((A.stores T).short l) ((B.stores T).short l)) (λ g. ((A.stores T).answer g ∙ sym ((B.stores T).answer g), (A.stores T).after g ∙ sym ((B.stores T).after g))) (lt_or_ge (length old) (length (image_of_table (reading xs)))))
     (λ n. refused_once NoTable old new other a b (A.no_table n) (B.no_table n))
 
 pub one_opening : OneOpening
@@ -161,7 +160,7 @@ one_opening bytes xs ys zs a b A B = either_way (Image bytes) a b ys zs
     (λ n. refused_once NoImage xs ys zs a b (A.no_image (none bytes n)) (B.no_image (none bytes n)))
   where
     made : {s : Start sheet} → Makes s xs a ys → Makes s xs b zs → (a ≡ b) × (ys ≡ zs)
-    made {s} M N = ⊎_elim (λ l. refused_once NoTable xs ys zs a b (M.short l) (N.short l)) (λ g. (meaning_one a b (M.answer g ∙ sym (N.answer g)), became_once xs ys zs (fresh sheet s) (M.after g) (N.after g))) (lt_or_ge (length xs) (need s.devices))
+    made {s} M N = ⊎_elim (λ l. refused_once NoTable xs ys zs a b (M.short l) (N.short l)) (λ g. (M.answer g ∙ sym (N.answer g), became_once xs ys zs (fresh sheet s) (M.after g) (N.after g))) (lt_or_ge (length xs) (need s.devices))
 
 pub writing_reads_words_in_use : WritingReadsWordsInUse
 writing_reads_words_in_use xs ys old new other a b A W R = one_writing xs old new other a b W

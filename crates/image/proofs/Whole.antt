@@ -5,9 +5,9 @@ use Prim.Native.Nat.{ℕ}
 use native.Mathlib.Omega.{arith}
 use lib.ListN.{drop, length, length-drop}
 use lib.Seq.{drop-length}
-use Rattle.cbor.proofs.Apart.{Free, array_head_free}
+use Rattle.cbor.proofs.Apart.{array_head_free}
 use Rattle.cbor.proofs.Arrays.{array_free}
-use Rattle.cbor.specs.Code.{Here, Listed, Nowhere, Within, array_of}
+use Rattle.cbor.specs.Code.{array_of, Free, Here, Listed, Nowhere, Within}
 use Rattle.cbor.specs.Head.{head_of}
 use Rattle.cells.specs.declared.Cell.{Cell}
 use Rattle.coding.specs.Image.{Allowed, NotImage, NumberAllowed, image_of}

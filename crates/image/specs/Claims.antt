@@ -3,11 +3,8 @@ use Rattle.std.specs.Prelude.{List, ◌++◌, ◌↔◌, ◌≡◌, ℕ, ◌≤�
 use Rattle.cells.specs.declared.Cell.{Cell}
 use Rattle.cells.specs.declared.Cell.TheVariants.{Blank}
 use Rattle.protocol.specs.declared.Refusal.TheVariants.{NoTable, BufferShort, NoImage}
-use Rattle.protocol.specs.Machine.{Table, fresh_device, done, refused, length_is}
+use Rattle.protocol.specs.Machine.{Table, fresh_device, done, refused, length_is, Answer}
 use Rattle.sheet.specs.Sheet.{sheet}
-use Rattle.sheet.specs.Answer.{meaning}
-use Rattle.sheet.specs.declared.Answer.{Answer}
-use Rattle.sheet.specs.declared.Answer.TheVariants.{Length}
 use Rattle.table.specs.Table.{need, reading, IsTable}
 use Rattle.table.specs.Claims.{Agree, MadeAlike}
 use Rattle.coding.specs.Image.{image_of, Allowed, NotImage}
@@ -25,22 +22,22 @@ abbrev pub LongestReached : Type 0
 LongestReached = (cells : List Cell) × (numbers : List ℕ) × Allowed cells numbers × (length (image_of cells numbers) ≡ 620)
 
 -- Which answer writing gives, and when.
-pub record WritingAnswers (xs old : List ℕ) (a : Answer) : Type 0 where
-  pub write_1 : (meaning a ≡ refused NoTable) ↔ (IsTable xs → ⊥)
-  pub write_11 : IsTable xs → ((meaning a ≡ refused BufferShort) ↔ (length old < length (image_of_table (reading xs))))
-  pub write_length : IsTable xs → ((meaning a ≡ length_is (length (image_of_table (reading xs)))) ↔ (length (image_of_table (reading xs)) ≤ length old))
+pub record WritingAnswers (xs old : List ℕ) (a : Answer sheet) : Type 0 where
+  pub write_1 : (a ≡ refused NoTable) ↔ (IsTable xs → ⊥)
+  pub write_11 : IsTable xs → ((a ≡ refused BufferShort) ↔ (length old < length (image_of_table (reading xs))))
+  pub write_length : IsTable xs → ((a ≡ length_is (length (image_of_table (reading xs)))) ↔ (length (image_of_table (reading xs)) ≤ length old))
 
 abbrev pub WritingAlwaysAnswers : Type 0
-WritingAlwaysAnswers = (xs old new : List ℕ) (a : Answer) → Written xs old a new → WritingAnswers xs old a
+WritingAlwaysAnswers = (xs old new : List ℕ) (a : Answer sheet) → Written xs old a new → WritingAnswers xs old a
 
 -- Which answer opening gives, and when: 12 exactly when the bytes are the encoding of no allowed cells and numbers.
-pub record OpeningAnswers (bytes xs : List ℕ) (a : Answer) : Type 0 where
-  pub open_12 : (meaning a ≡ refused NoImage) ↔ (NotImage bytes)
-  pub open_1 : (cells : List Cell) (numbers : List ℕ) → Allowed cells numbers → bytes ≡ image_of cells numbers → ((meaning a ≡ refused NoTable) ↔ (length xs < need (length numbers)))
-  pub open_done : (cells : List Cell) (numbers : List ℕ) → Allowed cells numbers → bytes ≡ image_of cells numbers → ((meaning a ≡ done) ↔ (need (length numbers) ≤ length xs))
+pub record OpeningAnswers (bytes xs : List ℕ) (a : Answer sheet) : Type 0 where
+  pub open_12 : (a ≡ refused NoImage) ↔ (NotImage bytes)
+  pub open_1 : (cells : List Cell) (numbers : List ℕ) → Allowed cells numbers → bytes ≡ image_of cells numbers → ((a ≡ refused NoTable) ↔ (length xs < need (length numbers)))
+  pub open_done : (cells : List Cell) (numbers : List ℕ) → Allowed cells numbers → bytes ≡ image_of cells numbers → ((a ≡ done) ↔ (need (length numbers) ≤ length xs))
 
 abbrev pub OpeningAlwaysAnswers : Type 0
-OpeningAlwaysAnswers = (bytes xs ys : List ℕ) (a : Answer) → Opened bytes xs a ys → OpeningAnswers bytes xs a
+OpeningAlwaysAnswers = (bytes xs ys : List ℕ) (a : Answer sheet) → Opened bytes xs a ys → OpeningAnswers bytes xs a
 
 -- What opening an image makes: a table with its sheet and numbers, and each device as document 01 says.
 pub record OpenedTable (cells : List Cell) (numbers ys : List ℕ) : Type 0 where
@@ -52,7 +49,7 @@ pub record OpenedTable (cells : List Cell) (numbers ys : List ℕ) : Type 0 wher
   pub device : (d : ℕ) → d < length numbers → (reading ys).device d ≡ fresh_device sheet (λ c. get_or cells c Blank) (get_or numbers d 0)
 
 abbrev pub OpenedIsTable : Type 0
-OpenedIsTable = (cells : List Cell) (numbers xs ys : List ℕ) (a : Answer) → Allowed cells numbers → Opened (image_of cells numbers) xs a ys → meaning a ≡ done → OpenedTable cells numbers ys
+OpenedIsTable = (cells : List Cell) (numbers xs ys : List ℕ) (a : Answer sheet) → Allowed cells numbers → Opened (image_of cells numbers) xs a ys → a ≡ done → OpenedTable cells numbers ys
 
 -- Two tables have the same lasting part.
 pub record SameLasting (s t : Table sheet) : Type 0 where
@@ -63,24 +60,24 @@ pub record SameLasting (s t : Table sheet) : Type 0 where
 
 -- Written and opened again, in any slice with room, gives the same sheet and numbers.
 abbrev pub WrittenOpened : Type 0
-WrittenOpened = (xs old new : List ℕ) (a : Answer) (n : ℕ) (zs ws : List ℕ) (b : Answer) → IsTable xs → Written xs old a new → meaning a ≡ length_is n → Opened (take n new) zs b ws → need (reading xs).devices ≤ length zs → (meaning b ≡ done) × SameLasting (reading ws) (reading xs)
+WrittenOpened = (xs old new : List ℕ) (a : Answer sheet) (n : ℕ) (zs ws : List ℕ) (b : Answer sheet) → IsTable xs → Written xs old a new → a ≡ length_is n → Opened (take n new) zs b ws → need (reading xs).devices ≤ length zs → (b ≡ done) × SameLasting (reading ws) (reading xs)
 
 -- Each accepted image is written back byte for byte.
 abbrev pub OpenedWritten : Type 0
-OpenedWritten = (bytes xs ys old new : List ℕ) (a b : Answer) → Opened bytes xs a ys → meaning a ≡ done → Written ys old b new → length bytes ≤ length old → (b ≡ Length (length bytes)) × (new ≡ bytes ++ drop (length bytes) old)
+OpenedWritten = (bytes xs ys old new : List ℕ) (a b : Answer sheet) → Opened bytes xs a ys → a ≡ done → Written ys old b new → length bytes ≤ length old → (b ≡ length_is (length bytes)) × (new ≡ bytes ++ drop (length bytes) old)
 
 -- No second outcome fits: the answer, and every byte of the buffer or word of the slice.
 abbrev pub OneWriting : Type 0
-OneWriting = (xs old new other : List ℕ) (a b : Answer) → Written xs old a new → Written xs old b other → (a ≡ b) × (new ≡ other)
+OneWriting = (xs old new other : List ℕ) (a b : Answer sheet) → Written xs old a new → Written xs old b other → (a ≡ b) × (new ≡ other)
 
 abbrev pub OneOpening : Type 0
-OneOpening = (bytes xs ys zs : List ℕ) (a b : Answer) → Opened bytes xs a ys → Opened bytes xs b zs → (a ≡ b) × (ys ≡ zs)
+OneOpening = (bytes xs ys zs : List ℕ) (a b : Answer sheet) → Opened bytes xs a ys → Opened bytes xs b zs → (a ≡ b) × (ys ≡ zs)
 
 -- "Bytes past the table's need stay unread", and so does every word that is not in use: writing answers and writes the same for slices that agree on them.
 abbrev pub WritingReadsWordsInUse : Type 0
-WritingReadsWordsInUse = (xs ys old new other : List ℕ) (a b : Answer) → Agree xs ys → Written xs old a new → Written ys old b other → (a ≡ b) × (new ≡ other)
+WritingReadsWordsInUse = (xs ys old new other : List ℕ) (a b : Answer sheet) → Agree xs ys → Written xs old a new → Written ys old b other → (a ≡ b) × (new ≡ other)
 
 -- Opening reads no word of the slice where it makes a table, and leaves alone those that its table does not use.
 abbrev pub OpeningReadsNoWord : Type 0
-OpeningReadsNoWord = (cells : List Cell) (numbers xs ys xs' ys' : List ℕ) (a b : Answer) → Allowed cells numbers → need (length numbers) ≤ length xs → need (length numbers) ≤ length ys
+OpeningReadsNoWord = (cells : List Cell) (numbers xs ys xs' ys' : List ℕ) (a b : Answer sheet) → Allowed cells numbers → need (length numbers) ≤ length xs → need (length numbers) ≤ length ys
     → Opened (image_of cells numbers) xs a xs' → Opened (image_of cells numbers) ys b ys' → MadeAlike xs xs' ys' a b

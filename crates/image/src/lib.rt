@@ -2,6 +2,7 @@
 
 #![tactic(auto)]
 
+pub mod element;
 pub mod opening;
 pub mod reading;
 pub mod writing;

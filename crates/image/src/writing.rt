@@ -1,24 +1,24 @@
 // The image written: from lent words, and from a table.
-ghost use Rattle.std.specs.Prelude.{◌+◌, ◌≤◌, length};
+ghost use Rattle.std.specs.Prelude.{ℕ, ◌+◌, ◌*◌, ◌<◌, ◌≤◌, length};
 ghost use Rattle.cbor.specs.Bytes.{Wrote};
 ghost use Rattle.cbor.specs.Code.{each, array_of};
-ghost use Rattle.cbor.specs.Head.{head_of};
 ghost use Rattle.record.specs.Reading.{queue};
-ghost use Rattle.coding.specs.Item.{cell_bytes};
-ghost use Rattle.image.specs.Words.{cell_in, number_in, CellsAt, NumbersAt, Stored, image_at};
+ghost use Rattle.image.specs.Element.{spaced};
+ghost use Rattle.image.specs.Words.{NumbersAt, Stored, image_at};
 ghost use Rattle.image.specs.Promise.{Stores, Written};
+ghost use Rattle.sheet.specs.Answer.{meaning};
 
-use cbor::bytes::copy_bytes;
+use crate::element::Element;
 use cbor::head::write_head;
-use coding::cell::write_cell;
+use cbor::major::Major;
+use cells::Cell;
 use protocol::Refusal;
 use sheet::Answer;
-use table::check::is_table;
-use words::layout::{CELLS, DEVICES, RECORD, RECORDS, SHEET, TAKEN};
-use words::place::get_cell;
+use table::known::extent_of;
+use words::layout::{CELL, RECORD, RECORDS, SHEET, TAKEN};
 
 // Where the cells and the numbers lie: how many cells, and their first word; how many devices, device 0's number, and the words from one number to the next.
-#[derive(Clone, Copy)]
+#[derive(Clone, Copy, Debug, PartialEq, Eq)]
 pub struct Places {
     pub cells: usize,
     pub sheet: usize,
@@ -27,69 +27,43 @@ pub struct Places {
     pub stride: usize,
 }
 
-// The bytes of the n cells from `from` on.
-fn write_cells(words: &[u64], from: usize, n: usize, out: &mut [u8], at: usize) -> usize
-    requires cells_at { CellsAt words.now from n }
-    requires from_in_bounds { at + length (each cell_bytes (queue n (cell_in words.now from))) ≤ length out.old }
-    ensures { Wrote out.old at (each cell_bytes (queue n (cell_in words.now from))) out.new result }
-{
-    let mut p = at;
-    let mut i = 0;
-    while i < n {
-        let c = get_cell(words, from, i);
-        p = write_cell(out, p, c);
-        i += 1;
-    }
-    p
-}
-
-// The bytes of n devices' numbers: device 0's stands at `first`, the next one's `stride` words later.
-fn write_numbers(
-    numbers: &[u64],
+// The bytes of n elements: the first one stands at `first`, each further one `stride` words later.
+fn write_elements<T: Element>(
+    words: &[u64],
     first: usize,
     stride: usize,
     n: usize,
     out: &mut [u8],
     at: usize,
 ) -> usize
-    requires numbers_at { NumbersAt numbers.now first stride n }
-    requires stride_in_bounds { at + length (each (head_of 0) (queue n (number_in numbers.now first stride))) ≤ length out.old }
-    ensures { Wrote out.old at (each (head_of 0) (queue n (number_in numbers.now first stride))) out.new result }
+    requires in_words { NumbersAt words.now first stride n }
+    requires ready { (k : ℕ) → k < n → T.Ready words.now (first + stride * k) }
+    requires in_bounds { at + length (each T.code (queue n (spaced T.stands words.now first stride))) ≤ length out.old }
+    ensures { Wrote out.old at (each T.code (queue n (spaced T.stands words.now first stride))) out.new result }
 {
     let mut p = at;
-    let mut i = 0;
-    while i < n {
-        p = write_head(out, p, 0, numbers[first + stride * i]);
-        i += 1;
+    for k in 0..n {
+        p = T::write(out, p, T::get(words, first + stride * k));
     }
     p
 }
 
-// The array of those cells.
-fn write_sheet(words: &[u64], from: usize, n: usize, out: &mut [u8], at: usize) -> usize
-    requires cells_at { CellsAt words.now from n }
-    requires from_in_bounds { at + length (array_of cell_bytes (queue n (cell_in words.now from))) ≤ length out.old }
-    ensures { Wrote out.old at (array_of cell_bytes (queue n (cell_in words.now from))) out.new result }
-{
-    let next = write_head(out, at, 4, n as u64);
-    write_cells(words, from, n, out, next)
-}
-
-// The array of those numbers.
-fn write_devices(
-    numbers: &[u64],
+// The array of those elements.
+fn write_array<T: Element>(
+    words: &[u64],
     first: usize,
     stride: usize,
     n: usize,
     out: &mut [u8],
     at: usize,
 ) -> usize
-    requires numbers_at { NumbersAt numbers.now first stride n }
-    requires stride_in_bounds { at + length (array_of (head_of 0) (queue n (number_in numbers.now first stride))) ≤ length out.old }
-    ensures { Wrote out.old at (array_of (head_of 0) (queue n (number_in numbers.now first stride))) out.new result }
+    requires in_words { NumbersAt words.now first stride n }
+    requires ready { (k : ℕ) → k < n → T.Ready words.now (first + stride * k) }
+    requires in_bounds { at + length (array_of T.code (queue n (spaced T.stands words.now first stride))) ≤ length out.old }
+    ensures { Wrote out.old at (array_of T.code (queue n (spaced T.stands words.now first stride))) out.new result }
 {
-    let next = write_head(out, at, 4, n as u64);
-    write_numbers(numbers, first, stride, n, out, next)
+    let next = write_head(out, at, Major::Array, n as u64);
+    write_elements::<T>(words, first, stride, n, out, next)
 }
 
 // The image at the front of a buffer that has room for it; answers its length.
@@ -98,38 +72,37 @@ fn write_all(words: &[u64], numbers: &[u64], p: Places, out: &mut [u8]) -> usize
     requires p_in_bounds { length (image_at words.now numbers.now p) ≤ length out.old }
     ensures { Wrote out.old 0 (image_at words.now numbers.now p) out.new result }
 {
-    let a = write_head(out, 0, 4, 2);
-    let b = write_sheet(words, p.sheet, p.cells, out, a);
-    write_devices(numbers, p.first, p.stride, p.devices, out, b)
+    let a = write_head(out, 0, Major::Array, 2);
+    let b = write_array::<Cell>(words, p.sheet, CELL, p.cells, out, a);
+    write_array::<u64>(numbers, p.first, p.stride, p.devices, out, b)
 }
 
 // The bytes of the longest image.
 pub const LONGEST: usize = 620;
 
 // Writes the image to the buffer's front, or nothing where it has no room.
-pub fn write(words: &[u64], numbers: &[u64], p: Places, out: &mut [u8]) -> Answer
+#[tactic(auto, using(crate::proofs::Longest::stored_longest))]
+pub fn write(words: &[u64], numbers: &[u64], p: Places, out: &mut [u8]) -> Result<Answer, Refusal>
     requires { Stored words.now numbers.now p }
-    ensures { Stores (image_at words.now numbers.now p) out.old result out.new }
+    ensures { Stores (image_at words.now numbers.now p) out.old (meaning result) out.new }
 {
     let mut buffer = [0u8; LONGEST];
     let n = write_all(words, numbers, p, &mut buffer);
     if out.len() < n {
-        return Answer::Refused(Refusal::BufferShort);
+        return Err(Refusal::BufferShort);
     }
-    copy_bytes(&buffer, n, out);
-    Answer::Length(n as u64)
+    out[..n].copy_from_slice(&buffer[..n]);
+    Ok(Answer::Length(n as u64))
 }
 
-pub fn write_image(t: &[u64], out: &mut [u8]) -> Answer
-    ensures { Written t.now out.old result out.new }
+pub fn write_image(t: &[u64], out: &mut [u8]) -> Result<Answer, Refusal>
+    ensures { Written t.now out.old (meaning result) out.new }
 {
-    if !is_table(t) {
-        return Answer::Refused(Refusal::NoTable);
-    }
+    let extent = extent_of(t)?;
     let places = Places {
-        cells: t[CELLS] as usize,
+        cells: extent.cells,
         sheet: SHEET,
-        devices: t[DEVICES] as usize,
+        devices: extent.devices,
         first: RECORDS + TAKEN,
         stride: RECORD,
     };

@@ -7,11 +7,11 @@ use answers::answer::put_answer_line;
 use image::writing::LONGEST;
 use imaging::compose::compose;
 use imaging::show::show;
+use protocol::Refusal;
 use sheet::Answer;
 use showing::read_full;
 use std::env::Env;
 use std::io;
-use text::field::same;
 
 // More bytes than the buffer holds are read up to there, and are no image: none has so many.
 fn read_image(rt: &(impl Input + Print)) -> io::Result<()> {
@@ -22,7 +22,7 @@ fn read_image(rt: &(impl Input + Print)) -> io::Result<()> {
     rt.write_all(&out[..k])
 }
 
-fn answer(rt: &impl Print, a: Answer) -> io::Result<()> {
+fn answer(rt: &impl Print, a: Result<Answer, Refusal>) -> io::Result<()> {
     let mut out = [0u8; 34];
     let k = put_answer_line(&mut out, 0, a);
     rt.write_all(&out[..k])
@@ -34,7 +34,7 @@ fn write_image(rt: &(impl Input + Print)) -> io::Result<()> {
     let n = read_full(&mut rt.reader(), &mut text)?;
     let mut out = [0u8; LONGEST];
     let a = compose(&text[..n], &mut out);
-    if let Answer::Length(k) = a {
+    if let Ok(Answer::Length(k)) = a {
         let long = k as usize;
         rt.write_all(&out[..long])
     } else {
@@ -45,11 +45,9 @@ fn write_image(rt: &(impl Input + Print)) -> io::Result<()> {
 fn main(rt: HostRuntime) -> io::Result<()> {
     let mut word = [0u8; 16];
     let n = rt.arg(1, &mut word).unwrap_or(0);
-    if same(&word[..n], b"read") {
-        read_image(&rt)
-    } else if same(&word[..n], b"write") {
-        write_image(&rt)
-    } else {
-        rt.write_all(b"imager read or imager write\r\n")
+    match &word[..n] {
+        b"read" => read_image(&rt),
+        b"write" => write_image(&rt),
+        _ => rt.write_all(b"imager read or imager write\r\n"),
     }
 }

@@ -9,11 +9,11 @@ use Rattle.record.specs.Reading.{queue}
 use Rattle.text.proofs.PutLaws.{put_as, put_none, put_then}
 use Rattle.answers.specs.Answer.{PutUpTo, answer_line}
 use Rattle.protocol.specs.declared.Refusal.TheVariants.{NoImage}
-use Rattle.sheet.specs.declared.Answer.TheVariants.{Refused}
+use Rattle.protocol.specs.Machine.{refused}
 use Rattle.coding.specs.Image.{NotImage}
 use Rattle.image.specs.Read.{ImageOf}
 use Rattle.image.specs.Words.{cells_of, numbers_of}
-use Rattle.image.proofs.Opens.{image_sizes}
+use Rattle.image.proofs.Opens.{allowed_sizes}
 use Rattle.image.proofs.Queued.{each_queue}
 use Rattle.image.proofs.Whole.{image_inj}
 use Rattle.listing.specs.Shown.{Shown, image_text}
@@ -36,8 +36,8 @@ module _ (bytes words numbers : List ℕ) (cells devices : ℕ) (I : ImageOf byt
   shown_image P = record {
     no_image = λ n. absurd (n (cells_of words cells) (numbers_of numbers devices) I.allowed I.is);
     text = λ cs ns ok e. let q = image_inj (cells_of words cells) cs (numbers_of numbers devices) ns I.allowed ok (sym I.is ∙ e) in rw (q.0, q.1) at P.puts;
-    within = let z = image_sizes bytes words numbers cells devices I in omega (arith, P.within, P.puts.long);
+    within = let z = allowed_sizes words numbers cells devices I.allowed in omega (arith, P.within, P.puts.long);
   }
 
-pub shown_none : (bytes before after : List ℕ) (r : ℕ) → 4096 ≤ length before → NotImage bytes → PutUpTo 34 before 0 (answer_line (Refused NoImage)) after r → Shown bytes before after r
+pub shown_none : (bytes before after : List ℕ) (r : ℕ) → 4096 ≤ length before → NotImage bytes → PutUpTo 34 before 0 (answer_line (refused NoImage)) after r → Shown bytes before after r
 shown_none bytes before after r room n P = record { no_image = λ m. P.puts; text = λ cs ns ok e. absurd (n cs ns ok e); within = omega (arith, P.within, P.puts.long) }

@@ -3,24 +3,18 @@ use mathlib.Core.List.{List, [], ◌++◌, ◌∷◌, append_assoc}
 use mathlib.Core.Logic.{◌⊎◌, ⊎_elim}
 use mathlib.Core.Path.{◌∙◌, ◌≡◌, ap, refl, sym}
 use Prim.Native.Nat.{◌<◌, ◌≤◌, ℕ}
-use native.Mathlib.Decide.{dec_le}
 use native.Mathlib.Omega.{arith}
 use lib.ListN.{drop, get_or, length, take}
 use lib.Seq.{take_at}
 use Rattle.cells.specs.declared.Cell.{Cell}
-use Rattle.protocol.specs.Machine.{length_is, refused}
+use Rattle.protocol.specs.Machine.{length_is, refused, Answer}
 use Rattle.protocol.specs.Machine as machine
 use Rattle.protocol.specs.declared.Refusal.TheVariants.{BufferShort, NoImage}
 use Rattle.sheet.specs.Sheet.{sheet}
-use Rattle.sheet.specs.Answer.{meaning}
-use Rattle.sheet.specs.declared.Answer.{Answer}
-use Rattle.sheet.specs.declared.Answer.TheVariants.{Length, Refused}
-use Rattle.sheet.proofs.OneAnswer.{meaning_one}
 use Rattle.words.proofs.Places.{lt_or_ge}
 use Rattle.text.specs.Field.{record_of}
 use Rattle.text.specs.Text.{Put}
 use Rattle.text.proofs.PutLaws.{put_once}
-use Rattle.record.proofs.Once.{stable}
 use Rattle.table.proofs.Once.{either_way, refused_once}
 use Rattle.answers.specs.Answer.{answer_line, answer_text}
 use Rattle.cbor.specs.Code.{each}
@@ -28,7 +22,7 @@ use Rattle.coding.specs.Image.{Allowed, image_of}
 use Rattle.image.specs.Promise.{Stores}
 use Rattle.image.proofs.Theorems.{Image, length_refused, none, one_length}
 use Rattle.imaging.specs.Claims.{ComposedShown, ComposingAlwaysAnswers, OneComposing, OneShowing, RefusedShown, ShownComposed}
-use Rattle.imaging.specs.Composed.{Composed, NotText}
+use Rattle.imaging.specs.Composed.{NotText}
 use Rattle.listing.specs.Shown.{cell_line, image_text, number_line}
 use Rattle.imaging.proofs.WholeText.{cell_first}
 
@@ -52,7 +46,7 @@ put_front P = P.holds
 pub shown_composed : ShownComposed
 shown_composed cells numbers before after old new r a ok S C g =
     let T = C.stores cells numbers ok (put_front (S.text cells numbers ok refl)) in
-    (meaning_one a (Length (length (image_of cells numbers))) (T.answer g), T.after g)
+    (T.answer g, T.after g)
 
 -- The text is that of an image.
 abbrev Text : List ℕ → Type 0
@@ -74,7 +68,7 @@ composed_shown t old new a n before after r C e S = (either_way (Text t) a a (ta
         put_front (S.text p.0 p.1 p.2 front) ∙ sym p.3
 
 -- An image's text begins with a cell's line, and `refused` with no cell's first byte.
-refused_first : get_or (answer_line (Refused NoImage)) 0 0 ≡ 114
+refused_first : get_or (answer_line (refused NoImage)) 0 0 ≡ 114
 unfolding answer_line answer_text record_of
 refused_first = refl
 
@@ -90,15 +84,15 @@ refused_shown bytes before after r n S cs ns ok e =
 
 pub one_showing : OneShowing
 one_showing bytes before after other r q A B =
-    let o = either_way (Image bytes) (Length r) (Length q) after other
+    let o = either_way (Image bytes) (length_is r) (length_is q) after other
     (λ p. told (put_once before 0 _ after r other q (A.text p.0 p.1 p.2 p.3) (B.text p.0 p.1 p.2 p.3)))
     (λ n. told (put_once before 0 _ after r other q (A.no_image (none bytes n)) (B.no_image (none bytes n)))) in
     (o.1, lengths r q o.0)
   where
-    told : (after ≡ other) × (r ≡ q) → (Length r ≡ Length q) × (after ≡ other)
-    told p = (ap Length p.1, p.0)
+    told : (after ≡ other) × (r ≡ q) → (◌≡◌ {A = Answer sheet} (length_is r) (length_is q)) × (after ≡ other)
+    told p = (ap length_is p.1, p.0)
 
-    lengths : (m n : ℕ) → Length m ≡ Length n → m ≡ n
+    lengths : (m n : ℕ) → ◌≡◌ {A = Answer sheet} (length_is m) (length_is n) → m ≡ n
     lengths m n e = cc
 
 pub one_composing : OneComposing
@@ -109,14 +103,5 @@ one_composing t old new other a b A B = either_way (Text t) a b new other
     stored : {image : List ℕ} → Stores image old a new → Stores image old b other → (a ≡ b) × (new ≡ other)
     stored {image} M N = ⊎_elim
         (λ l. refused_once BufferShort old new other a b (M.short l) (N.short l))
-        (λ g. (meaning_one a b (M.answer g ∙ sym (N.answer g)), M.after g ∙ sym (N.after g)))
+        (λ g. (M.answer g ∙ sym (N.answer g), M.after g ∙ sym (N.after g)))
         (room old image)
-
--- The length that composing answers is within the buffer.
-pub composed_within : (t old new : List ℕ) (a : Answer) (k : ℕ) → Composed t old a new → meaning a ≡ length_is k → k ≤ length old
-composed_within t old new a k C e = stable (dec_le k (length old)) (λ n. length_refused _ _ _ e (C.no_text (no_text t (λ p. n (text p)))).number)
-  where
-    text : Text t → k ≤ length old
-    text p =
-        let T = C.stores p.0 p.1 p.2 p.3 in
-        ⊎_elim (λ l. absurd (length_refused _ _ _ e (T.short l).number)) (λ g. omega (arith, one_length _ _ _ e (T.answer g))) (room old (image_of p.0 p.1))

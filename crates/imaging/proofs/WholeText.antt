@@ -5,8 +5,7 @@ use Prim.Native.Nat.{◌<◌, ℕ}
 use native.Mathlib.Omega.{arith}
 use lib.ListN.{drop, get_or, length, length-drop}
 use lib.Seq.{drop-length}
-use Rattle.cbor.proofs.Apart.{Free}
-use Rattle.cbor.specs.Code.{All, Within, each}
+use Rattle.cbor.specs.Code.{All, each, Free, Within}
 use Rattle.cells.specs.declared.Cell.{Cell}
 use Rattle.cells.specs.declared.Cell.TheVariants.{Blank, Count, Measure}
 use Rattle.text.specs.Field.{record_of}
@@ -88,7 +87,7 @@ text_inj cs ds ns ms a b e =
 
 -- What `read_text` answers of its two runs.
 module _ (s words numbers : List ℕ) (a b : Run)
-    (C : RunIs cell_line CellAllowed (cells_of words) (Valid cell_place words 0) 64 s 0 a) (D : RunIs number_line NumberAllowed (numbers_of numbers) (λ n. Unit {0}) 8 s a.next b) where
+    (C : RunIs cell_line CellAllowed (cells_of words) (Valid cell_place words 0) 64 s 0 a) (D : RunIs number_line NumberAllowed (numbers_of numbers) (λ n. (k : ℕ) → k < n → Unit {0}) 8 s a.next b) where
   cells_count : length (cells_of words a.count) ≡ a.count
   cells_count = queue_length a.count (cell_in words 0)
 

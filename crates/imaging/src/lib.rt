@@ -3,4 +3,5 @@
 #![tactic(auto)]
 
 pub mod compose;
+pub mod line;
 pub mod show;

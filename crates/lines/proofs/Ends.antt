@@ -4,7 +4,7 @@ use mathlib.Core.Path.{◌≡◌, refl, ap, sym, ◌∙◌}
 use mathlib.Core.List.{List, [], ◌∷◌, ◌++◌}
 use mathlib.Core.Bool.{Bool, true, false}
 use native.Mathlib.Omega.{arith}
-use borrow.Author.Tests.{ne_eqb, eqb-true}
+use borrow.Author.Tests.{eqb-true}
 use lib.ListN.{length, get_or, take, length-append}
 use lib.Seq.{get_or-append_seam, length-take-le, take-append_seam}
 use lib.Dec.{eqb}
@@ -14,10 +14,6 @@ module _ (last b : ℕ) where
   pub ends_lf : b ≡ 10 → eqb last 13 ≡ ends_line last b
   unfolding ends_line
   ends_lf e = rw e
-
-  pub ends_no : (b ≡ 10 → ⊥) → false ≡ ends_line last b
-  unfolding ends_line
-  ends_no e = rw (ne_eqb b 10 e)
 
   ends_cr_by : (t : Bool) → eqb b 10 ≡ t → ends_line last b ≡ true → last ≡ 13
   unfolding ends_line

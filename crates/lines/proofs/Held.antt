@@ -25,10 +25,6 @@ le_or m n = le_or_by m n (leb m n) refl
 
 -- the code's tests
 module _ (len : ℕ) where
-  pub ended_none : len ≡ 0 → Long ≡ ended_of len
-  unfolding ended_of
-  ended_none e = rw e
-
   pub ended_long : (len ≡ 0 → ⊥) → 81 < len → Long ≡ ended_of len
   unfolding ended_of
   ended_long z h = rw (ne_eqb len 0 z, lt-ltb 81 len h)

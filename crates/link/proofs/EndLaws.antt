@@ -6,10 +6,8 @@ use Prim.Native.Nat.{ℕ, zero, suc, ◌≤◌, ◌<◌}
 use native.Mathlib.Omega.{arith}
 use lib.ListN.{length, get_or, set, drop, length-set}
 use Rattle.protocol.specs.declared.Refusal.TheVariants.{NoConnection}
-use Rattle.protocol.specs.Machine.{Device, Round, choose, is_held, unheld, is_stale, with_link, cut_off, serverdrop_at}
+use Rattle.protocol.specs.Machine.{Device, Round, choose, is_held, unheld, is_stale, with_link, cut_off, serverdrop_at, Answer, done, refused}
 use Rattle.sheet.specs.Sheet.{sheet}
-use Rattle.sheet.specs.declared.Answer.{Answer}
-use Rattle.sheet.specs.declared.Answer.TheVariants.{Done, Refused}
 use Rattle.words.specs.Layout.{TAKEN, REQUEST, CONNECTION, WAITING_LENGTH, WAITING, ITEMS_LENGTH, ITEMS, RECORD}
 use Rattle.words.proofs.Places.{set_kept, set_new}
 use Rattle.record.specs.Reading.{channel_of, connection_of, request_of, link_of, device_of}
@@ -94,16 +92,16 @@ module _ (devices cells : ℕ) (xs : List ℕ) (request k : ℕ) (R : IsRecord d
         taken_kept : get_or end TAKEN 0 ≡ get_or xs TAKEN 0
         taken_kept = from_y ∙ outside TAKEN (λ e. omega arith) (λ p r. omega arith)
 
-    pub ended_so : Did devices cells (end_at (request_of request)) xs Done (set (set y REQUEST request) CONNECTION 0)
+    pub ended_so : Did devices cells (end_at (request_of request)) xs done (set (set y REQUEST request) CONNECTION 0)
     ended_so = unfold end x in (record { answer = refl; after = turned.says; taken = turned.taken; valid = turned.valid; kept = turned.kept })
 
 -- serverdrop: nothing to end, or the end with the request as it stands.
 module _ (devices cells : ℕ) (xs : List ℕ) where
-  pub serverdrop_refused : IsRecord devices cells xs → get_or xs CONNECTION 0 ≡ 0 → Did devices cells (serverdrop_at sheet) xs (Refused NoConnection) xs
+  pub serverdrop_refused : IsRecord devices cells xs → get_or xs CONNECTION 0 ≡ 0 → Did devices cells (serverdrop_at sheet) xs (refused NoConnection) xs
   unfolding serverdrop_at device_of link_of
-  serverdrop_refused R e = told devices cells (serverdrop_at sheet) xs (Refused NoConnection) R (rw e refl)
+  serverdrop_refused R e = told devices cells (serverdrop_at sheet) xs (refused NoConnection) R (rw e refl)
 
-  pub serverdrop_done : (ys : List ℕ) (a : Answer) → (get_or xs CONNECTION 0 ≡ 0 → ⊥) → Did devices cells (end_at (request_of (get_or xs REQUEST 0))) xs a ys → Did devices cells (serverdrop_at sheet) xs a ys
+  pub serverdrop_done : (ys : List ℕ) (a : Answer sheet) → (get_or xs CONNECTION 0 ≡ 0 → ⊥) → Did devices cells (end_at (request_of (get_or xs REQUEST 0))) xs a ys → Did devices cells (serverdrop_at sheet) xs a ys
   unfolding serverdrop_at device_of link_of
   serverdrop_done ys a n D = did_as devices cells (end_at (request_of (get_or xs REQUEST 0))) (serverdrop_at sheet) xs ys a (go (get_or xs CONNECTION 0) n refl) D
     where

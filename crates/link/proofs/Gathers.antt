@@ -43,9 +43,6 @@ module _ (cells : ℕ) (ss rs : List ℕ) where
   }
 
 -- What a share is: no more than wait, and none without a connection.
-pub no_share : (count waiting connection : ℕ) → connection ≡ 0 → 0 ≡ min (choose (is_held (connection_of connection)) count 0) waiting
-no_share count waiting connection e = rw e (omega arith)
-
 pub some_share : (count waiting connection r : ℕ) → connection ≤ STALE → (connection ≡ 0 → ⊥) → r ≡ min count waiting → r ≡ min (choose (is_held (connection_of connection)) count 0) waiting
 some_share count waiting zero r h n e = absurd (n refl)
 some_share count waiting (suc zero) r h n e = e

@@ -8,9 +8,8 @@ use native.Mathlib.Omega.{arith}
 use lib.ListN.{length, get_or}
 use Rattle.cells.specs.declared.Cell.TheVariants.{Blank}
 use Rattle.cells.specs.declared.Change.TheVariants.{Nothing}
-use Rattle.protocol.specs.Machine.{device_after, Channel, Connection, Device, Item, Link, Local, Round, fine, with_link}
+use Rattle.protocol.specs.Machine.{device_after, Channel, Connection, Device, Item, Link, Local, Round, fine, with_link, Answer}
 use Rattle.sheet.specs.Sheet.{sheet}
-use Rattle.sheet.specs.declared.Answer.{Answer}
 use Rattle.words.specs.Layout.{QUEUE, ROUND, ITEM, LAST, TAKEN, CHANNEL, REQUEST, CONNECTION, COVERED, PENDING_LENGTH, WAITING_LENGTH, ITEMS_LENGTH, KNOWN, TRANSACTION, BUFFERED, PENDING, WAITING, ITEMS, RECORD}
 use Rattle.words.specs.Place.{cell_place, change_place, Out}
 use Rattle.words.proofs.Places.{lt_or_ge, cell_local, change_local}
@@ -110,5 +109,5 @@ module _ (devices cells : ℕ) (xs y1 y2 y3 end : List ℕ) (waiting : List (Rou
     link_turned n e = record { says = parts_say devices cells end _ parts; taken = e; valid = parts_valid devices cells end _ parts; kept = kept_is }
 
 -- A step that is done turns its record.
-pub did_turned : (devices cells : ℕ) (f : Device sheet → Local sheet) (xs ys : List ℕ) (a : Answer) (y : Device sheet) → f (device_of devices cells xs) ≡ fine y → Did devices cells f xs a ys → Turned devices cells y (get_or xs TAKEN 0) xs ys
+pub did_turned : (devices cells : ℕ) (f : Device sheet → Local sheet) (xs ys : List ℕ) (a : Answer sheet) (y : Device sheet) → f (device_of devices cells xs) ≡ fine y → Did devices cells f xs a ys → Turned devices cells y (get_or xs TAKEN 0) xs ys
 did_turned devices cells f xs ys a y e D = record { says = D.after ∙ ap (device_after sheet (device_of devices cells xs)) e; taken = D.taken; valid = D.valid; kept = D.kept }

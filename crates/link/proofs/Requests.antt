@@ -6,9 +6,8 @@ use Prim.Native.Nat.{ℕ, zero, suc}
 use native.Mathlib.Omega.{arith}
 use lib.ListN.{length, get_or, set, length-set}
 use Rattle.protocol.specs.declared.Refusal.TheVariants.{NoRequest, Held}
-use Rattle.protocol.specs.Machine.{Item, live, fine, tell, answer_of, device_after, refused, taken_up, accept_with, with_link}
+use Rattle.protocol.specs.Machine.{Item, live, fine, tell, answer_of, device_after, refused, taken_up, accept_with, with_link, done}
 use Rattle.sheet.specs.Sheet.{sheet}
-use Rattle.sheet.specs.declared.Answer.TheVariants.{Done, Refused}
 use Rattle.words.specs.Layout.{ITEM_KIND, LIVE, TAKEN, REQUEST, CONNECTION, WAITING_LENGTH, WAITING, ITEMS_LENGTH, ITEMS, RECORD}
 use Rattle.words.proofs.Places.{set_kept, set_new}
 use Rattle.record.specs.Reading.{channel_of, connection_of, request_of, item_at, link_of, device_of}
@@ -28,14 +27,14 @@ module _ (devices cells : ℕ) (xs ss : List ℕ) (R : IsRecord devices cells xs
   item : Item sheet
   item = item_at devices cells ss ITEM_KIND
 
-  pub no_request : get_or xs REQUEST 0 ≡ 0 → Did devices cells (accept_with sheet (item_at devices cells ss ITEM_KIND)) xs (Refused NoRequest) xs
+  pub no_request : get_or xs REQUEST 0 ≡ 0 → Did devices cells (accept_with sheet (item_at devices cells ss ITEM_KIND)) xs (refused NoRequest) xs
   unfolding accept_with device_of link_of
-  no_request e = told devices cells (accept_with sheet (item_at devices cells ss ITEM_KIND)) xs (Refused NoRequest) R (rw e refl)
+  no_request e = told devices cells (accept_with sheet (item_at devices cells ss ITEM_KIND)) xs (refused NoRequest) R (rw e refl)
 
   module _ (asks : get_or xs REQUEST 0 ≡ 0 → ⊥) where
-    pub request_held : (get_or xs CONNECTION 0 ≡ 0 → ⊥) → Did devices cells (accept_with sheet (item_at devices cells ss ITEM_KIND)) xs (Refused Held) xs
+    pub request_held : (get_or xs CONNECTION 0 ≡ 0 → ⊥) → Did devices cells (accept_with sheet (item_at devices cells ss ITEM_KIND)) xs (refused Held) xs
     unfolding accept_with device_of link_of
-    request_held n = told devices cells (accept_with sheet (item_at devices cells ss ITEM_KIND)) xs (Refused Held) R (go (get_or xs REQUEST 0) (get_or xs CONNECTION 0) refl refl)
+    request_held n = told devices cells (accept_with sheet (item_at devices cells ss ITEM_KIND)) xs (refused Held) R (go (get_or xs REQUEST 0) (get_or xs CONNECTION 0) refl refl)
       where
         go : (r k : ℕ) → get_or xs REQUEST 0 ≡ r → get_or xs CONNECTION 0 ≡ k → accept_with sheet (item_at devices cells ss ITEM_KIND) (device_of devices cells xs) ≡ tell (refused Held)
         go zero k e f = absurd (asks e)
@@ -106,10 +105,10 @@ module _ (devices cells : ℕ) (xs ss : List ℕ) (R : IsRecord devices cells xs
           go zero n e = absurd (n refl)
           go (suc k) n e = rw (e, free) refl
 
-      pub request_taken : Did devices cells (accept_with sheet (item_at devices cells ss ITEM_KIND)) xs Done (set (set y REQUEST 0) CONNECTION LIVE)
+      pub request_taken : Did devices cells (accept_with sheet (item_at devices cells ss ITEM_KIND)) xs done (set (set y REQUEST 0) CONNECTION LIVE)
       request_taken = unfold end item in did
         where
-          did : Did devices cells (accept_with sheet item) xs Done end
+          did : Did devices cells (accept_with sheet item) xs done end
           did = record {
             answer = sym (ap (answer_of sheet) step_is);
             after = turned.says ∙ sym (ap (device_after sheet (device_of devices cells xs)) step_is);

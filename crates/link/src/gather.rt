@@ -3,7 +3,8 @@ ghost use Rattle.std.specs.Prelude.{◌<◌};
 ghost use Rattle.link.specs.Gather.{RoundsReady, JoinedRounds, RecordReady, GatheredOne};
 
 use crate::waiting::share;
-use words::across::join_changes_from;
+use cells::Change;
+use words::across::change_from;
 use words::layout::{
     CONNECTION, ITEM_NUMBERS, ITEM_PLACES, ROUND, ROUND_CHANGES, WAITING, WAITING_LENGTH,
 };
@@ -13,16 +14,14 @@ fn join_rounds(segment: &mut [u64], r: &[u64], k: usize, cells: usize)
     requires { RoundsReady cells k segment.old r.now }
     ensures { JoinedRounds cells k segment.old r.now segment.new }
 {
-    let mut j = 0;
-    while j < k {
-        join_changes_from(
+    for j in 0..k {
+        change_from::<Change>(
             segment,
             ITEM_PLACES,
             r,
             WAITING + ROUND * j + ROUND_CHANGES,
             cells,
         );
-        j += 1;
     }
 }
 

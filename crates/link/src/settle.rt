@@ -11,6 +11,7 @@ ghost use Rattle.link.specs.Settle.{NumberTaken, HungUp, Settling, Settled};
 
 use crate::waiting::{drop_waiting, going};
 use delivery::deliver::deliver;
+use words::extent::Extent;
 use words::layout::{CONNECTION, ITEM_NUMBERS, LIVE, REQUEST, TAKEN, WAITING_LENGTH};
 
 // The number of the last round taken is in the segment, as number + 1; 0 where none was.
@@ -25,9 +26,9 @@ fn take_number(r: &mut [u64], word: u64)
 }
 
 // "puts one segment on every connection that is not stale", as far as it reaches.
-fn send_segment(r: &mut [u64], segment: &[u64], reaches: bool, devices: usize, cells: usize)
-    requires { Deliverable devices cells r.old segment.now }
-    ensures { Requeued (item_entry devices cells) r.old r.new ITEMS_LENGTH ITEMS (choose (is_live (connection_of (get_or r.old CONNECTION 0)) && reaches) (enqueue (join_item sheet) (items_of devices cells r.old) (item_at devices cells segment.now ITEM_KIND)) (items_of devices cells r.old)) }
+fn send_segment(r: &mut [u64], segment: &[u64], reaches: bool, extent: Extent)
+    requires { Deliverable extent.devices extent.cells r.old segment.now }
+    ensures { Requeued (item_entry extent.devices extent.cells) r.old r.new ITEMS_LENGTH ITEMS (choose (is_live (connection_of (get_or r.old CONNECTION 0)) && reaches) (enqueue (join_item sheet) (items_of extent.devices extent.cells r.old) (item_at extent.devices extent.cells segment.now ITEM_KIND)) (items_of extent.devices extent.cells r.old)) }
 {
     if r[CONNECTION] != LIVE {
         return;
@@ -35,7 +36,7 @@ fn send_segment(r: &mut [u64], segment: &[u64], reaches: bool, devices: usize, c
     if !reaches {
         return;
     }
-    deliver(r, segment, devices, cells);
+    deliver(r, segment, extent);
 }
 
 // With a crash the connection and the request end.
@@ -58,15 +59,14 @@ pub fn settle(
     count: u64,
     reaches: bool,
     crash: bool,
-    devices: usize,
-    cells: usize,
+    extent: Extent,
 )
-    requires { Settling devices cells d r.old segment.now }
-    ensures { Settled devices cells d count reaches crash segment.now r.old r.new }
+    requires { Settling extent.devices extent.cells d r.old segment.now }
+    ensures { Settled extent.devices extent.cells d count reaches crash segment.now r.old r.new }
 {
     let k = going(count, r[CONNECTION], r[WAITING_LENGTH], crash);
     take_number(r, segment[ITEM_NUMBERS + d]);
-    drop_waiting(r, k as usize, cells);
-    send_segment(r, segment, reaches, devices, cells);
+    drop_waiting(r, k as usize, extent.cells);
+    send_segment(r, segment, reaches, extent);
     hang_up(r, crash);
 }

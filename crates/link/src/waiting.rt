@@ -18,7 +18,7 @@ pub fn share(count: u64, connection: u64, waiting: u64) -> u64
     if connection == 0 {
         return 0;
     }
-    if count < waiting { count } else { waiting }
+    count.min(waiting)
 }
 
 // How many waiting rounds go. A crash ends a stale connection, and all that waits on it is gone.

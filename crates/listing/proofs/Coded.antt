@@ -1,20 +1,19 @@
 -- Values whose code is a line: a text of their own and its CR LF. Assumes nothing.
+use Rattle.std.specs.Prelude.{None, Option, Some}
 use mathlib.Core.List.{List, ◌++◌, append_cancel_left}
 use mathlib.Core.Logic.{⊎_elim}
 use mathlib.Core.Path.{◌∙◌, ◌≡◌, ap, refl, subst, sym}
 use Prim.Native.Nat.{ℕ}
 use native.Mathlib.Omega.{arith}
 use lib.ListN.{length}
-use Rattle.cbor.proofs.Apart.{Free}
-use Rattle.cbor.specs.Code.{Here, Nowhere}
+use Rattle.cbor.specs.Code.{Free, Here, Nowhere}
 use Rattle.cells.specs.declared.Cell.{Cell}
 use Rattle.text.specs.Text.{Without, ended}
-use Rattle.text.specs.declared.number.Whole.{Whole}
+use Rattle.std.specs.Prelude.{Some, None}
 use Rattle.words.proofs.Places.{lt_or_ge}
 use Rattle.answers.specs.Answer.{answer_line, answer_text, cell_text}
 use Rattle.coding.specs.Image.{NumberAllowed}
 use Rattle.coding.specs.Item.{CellAllowed}
-use Rattle.coding.specs.declared.cell.Meant.TheVariants.{Means, NoCell}
 use Rattle.listing.specs.Shown.{cell_line, number_line, number_record}
 use Rattle.listing.specs.Texts.{EndsAt, LineText, cell_from, number_from}
 use Rattle.listing.proofs.Cuts.{first_end}
@@ -58,19 +57,19 @@ pub cell_line_none : (s : List ℕ) (p : ℕ) → Nowhere ended LineText s p →
 cell_line_none = line_none cell_line cell_text CellAllowed cell_form cell_line_text
 
 module _ (s : List ℕ) (p : ℕ) (t : List ℕ) (n : ℕ) (E : EndsAt s p t n) where
-  pub cell_line_one : (c : Cell) → cell_from t ≡ Means c → Here cell_line CellAllowed s p c n
+  pub cell_line_one : (c : Cell) → cell_from t ≡ Some c → Here cell_line CellAllowed s p c n
   cell_line_one c e = let h = subst (CellIs t) e (cell_sound t) in line_one cell_line cell_text CellAllowed cell_form cell_line_text s p t n E c h.0 h.1
 
-  pub cell_line_other : cell_from t ≡ NoCell → Nowhere cell_line CellAllowed s p
+  pub cell_line_other : cell_from t ≡ None → Nowhere cell_line CellAllowed s p
   cell_line_other e = line_other cell_line cell_text CellAllowed cell_form cell_line_text s p t n E (λ c ok d. never c (sym e ∙ ap cell_from d ∙ cell_complete c ok))
     where
-      never : (c : Cell) → NoCell ≡ Means c → ⊥
+      never : (c : Cell) → (◌≡◌ {A = Option Cell} None (Some c)) → ⊥
       never c q = let z : ◌≡◌ {A = ℕ} 0 1 = cc in omega arith
 
 pub cell_line_free : Free cell_line CellAllowed
 cell_line_free = line_free cell_line cell_text CellAllowed cell_form cell_line_text (λ a b oa ob e. same a b (sym (cell_complete a oa) ∙ ap cell_from e ∙ cell_complete b ob))
   where
-    same : (a b : Cell) → Means a ≡ Means b → a ≡ b
+    same : (a b : Cell) → Some a ≡ Some b → a ≡ b
     same a b q = cc
 
 -- the lines of numbers
@@ -82,17 +81,17 @@ pub number_line_none : (s : List ℕ) (p : ℕ) → Nowhere ended LineText s p �
 number_line_none = line_none number_line number_record NumberAllowed number_form number_line_text
 
 module _ (s : List ℕ) (p : ℕ) (t : List ℕ) (n : ℕ) (E : EndsAt s p t n) where
-  pub number_line_one : (k : ℕ) → number_from t ≡ Whole.Is k → Here number_line NumberAllowed s p k n
+  pub number_line_one : (k : ℕ) → number_from t ≡ Some k → Here number_line NumberAllowed s p k n
   number_line_one k e = let h = subst (NumberIs t) e (number_sound t) in line_one number_line number_record NumberAllowed number_form number_line_text s p t n E k h.0 h.1
 
-  pub number_line_other : number_from t ≡ Whole.Not → Nowhere number_line NumberAllowed s p
+  pub number_line_other : number_from t ≡ None → Nowhere number_line NumberAllowed s p
   number_line_other e = line_other number_line number_record NumberAllowed number_form number_line_text s p t n E (λ k ok d. never k (sym e ∙ ap number_from d ∙ number_complete k ok))
     where
-      never : (k : ℕ) → Whole.Not ≡ Whole.Is k → ⊥
+      never : (k : ℕ) → None ≡ Some k → ⊥
       never k q = let z : ◌≡◌ {A = ℕ} 0 1 = cc in omega arith
 
 pub number_line_free : Free number_line NumberAllowed
 number_line_free = line_free number_line number_record NumberAllowed number_form number_line_text (λ a b oa ob e. same a b (sym (number_complete a oa) ∙ ap number_from e ∙ number_complete b ob))
   where
-    same : (a b : ℕ) → Whole.Is a ≡ Whole.Is b → a ≡ b
+    same : (a b : ℕ) → Some a ≡ Some b → a ≡ b
     same a b q = cc

@@ -1,4 +1,5 @@
 -- A text that is read as a cell or as a number is the text of one, and each such text is read. Assumes nothing.
+use Rattle.std.specs.Prelude.{None, Option, Some}
 use mathlib.Core.Bool.{true}
 use mathlib.Core.List.{List, [], ◌∷◌}
 use mathlib.Core.Path.{◌∙◌, ◌≡◌, ap, refl, sym}
@@ -11,13 +12,14 @@ use Rattle.cells.specs.Finite.{finite_word}
 use Rattle.cells.specs.declared.Cell.{Cell}
 use Rattle.cells.specs.declared.Cell.TheVariants.{Blank, Count, Measure}
 use Rattle.cells.proofs.Finite.{float_word_finite, float_word_float, float_word_lt, word_float_word}
-use Rattle.text.specs.Field.{commas_of, field_of, record_of, same_as}
+use Rattle.text.specs.Field.{commas_of, field_of, record_of}
 use Rattle.text.specs.Number.{bits_of, decimal_of, signed_of}
 use Rattle.text.specs.Text.{Without, decimal_text, hex_text, signed_text}
-use Rattle.text.specs.declared.number.Whole.{Whole}
-use Rattle.text.proofs.Cases.{cond_of, whole_of}
+use Rattle.std.specs.Prelude.{bytes_eq, Option, Some, None}
+use Rattle.std.proofs.lemmas.Slice.Eq.{bytes_eq-Decides}
+use Rattle.text.proofs.Cases.{cond_of, some_of}
 use Rattle.text.proofs.DecimalTrip.{decimal_complete, decimal_sound}
-use Rattle.text.proofs.Fields.{line_fields, record_commas, record_field, record_first, same_eq}
+use Rattle.text.proofs.Fields.{line_fields, record_commas, record_field, record_first}
 use Rattle.text.proofs.HexTrip.{bits_complete, bits_sound}
 use Rattle.text.proofs.SignedTrip.{signed_complete, signed_sound}
 use Rattle.text.proofs.Without.{decimal_without, hex_without, signed_without, without}
@@ -25,24 +27,21 @@ use Rattle.answers.specs.Answer.{cell_text}
 use Rattle.wording.specs.Names.{blank_text, count_text, measure_text}
 use Rattle.wording.specs.Values.{update_name_of}
 use Rattle.wording.specs.declared.values.UpdateName.{UpdateName}
-use Rattle.wording.proofs.Cases.{signed_of_is}
 use Rattle.wording.proofs.UpdateNames.{UpdateNameIs, update_name_sound, update_names}
 use Rattle.coding.proofs.Meaning.{measure_allowed}
 use Rattle.coding.specs.Image.{NumberAllowed}
 use Rattle.coding.specs.Item.{CellAllowed}
-use Rattle.coding.specs.declared.cell.Meant.{Meant}
-use Rattle.coding.specs.declared.cell.Meant.TheVariants.{Means, NoCell}
 use Rattle.listing.specs.Shown.{number_record, number_text}
 use Rattle.listing.specs.Texts.{cell_by, cell_from, count_of, finite_of, measure_of, number_from}
 
 -- what was read of a text
-abbrev pub CellIs : List ℕ → Meant → Type 0
-CellIs t (Means c) = CellAllowed c × (t ≡ cell_text c)
-CellIs t NoCell = Unit {0}
+abbrev pub CellIs : List ℕ → Option Cell → Type 0
+CellIs t (Some c) = CellAllowed c × (t ≡ cell_text c)
+CellIs t None = Unit {0}
 
-abbrev pub NumberIs : List ℕ → Whole → Type 0
-NumberIs t (Whole.Is k) = NumberAllowed k × (t ≡ number_record k)
-NumberIs t Whole.Not = Unit {0}
+abbrev pub NumberIs : List ℕ → Option ℕ → Type 0
+NumberIs t (Some k) = NumberAllowed k × (t ≡ number_record k)
+NumberIs t None = Unit {0}
 
 -- a text with one comma, by its two fields
 two_fields : (t : List ℕ) {a b : List ℕ} → eqb (commas_of t) 1 ≡ true → field_of 0 t ≡ a → field_of 1 t ≡ b → t ≡ record_of a (b ∷ [])
@@ -53,25 +52,25 @@ unfolding record_of
 one_field t q e = line_fields 0 t (eqb-true (commas_of t) 0 q) ∙ e
 
 module _ (t : List ℕ) where
-  by_word : (w : UpdateName) → UpdateNameIs (field_of 0 t) w → CellIs t (cell_by w (commas_of t) t)
+  by_word : (w : Option UpdateName) → UpdateNameIs (field_of 0 t) w → CellIs t (cell_by w (commas_of t) t)
   unfolding cell_by count_of measure_of finite_of cell_text
-  by_word UpdateName.Blank f = cond_of (CellIs t) (eqb (commas_of t) 0) (λ q. (record { fits = tt; finite = refl }, one_field t q f)) (λ _. tt)
-  by_word UpdateName.Count f =
+  by_word (Some UpdateName.Blank) f = cond_of (CellIs t) (eqb (commas_of t) 0) (λ q. (record { fits = tt; finite = refl }, one_field t q f)) (λ _. tt)
+  by_word (Some UpdateName.Count) f =
       cond_of (CellIs t) (eqb (commas_of t) 1)
-      (λ q. signed_of_is (CellIs t) (signed_of (field_of 1 t)) tt λ z e.
+      (λ q. some_of (CellIs t) (signed_of (field_of 1 t)) tt λ z e.
       let s = signed_sound (field_of 1 t) z e in
       (record { fits = s.1; finite = refl }, two_fields t q f s.0))
       (λ _. tt)
-  by_word UpdateName.Measure f =
+  by_word (Some UpdateName.Measure) f =
       cond_of (CellIs t) (eqb (commas_of t) 1)
-      (λ q. whole_of (CellIs t) (bits_of (field_of 1 t)) tt λ n e.
+      (λ q. some_of (CellIs t) (bits_of (field_of 1 t)) tt λ n e.
       let s = bits_sound (field_of 1 t) n e in
       cond_of (CellIs t) (finite_word n)
       (λ h. (measure_allowed n h, two_fields t q f (s.0 ∙ ap (hex_text 16) (sym (word_float_word n s.1 h)))))
       (λ _. tt))
       (λ _. tt)
-  by_word UpdateName.Add f = tt
-  by_word UpdateName.Unknown f = tt
+  by_word (Some UpdateName.Add) f = tt
+  by_word None f = tt
 
   pub cell_sound : CellIs t (cell_from t)
   unfolding cell_from
@@ -81,12 +80,12 @@ module _ (t : List ℕ) where
   unfolding number_from number_record
   number_sound =
       cond_of (NumberIs t) (eqb (commas_of t) 1)
-      (λ q. cond_of (NumberIs t) (same_as (field_of 0 t) number_text) (λ h. by q (same_eq (field_of 0 t) number_text h) (decimal_of 1000000 (field_of 1 t)) refl) (λ _. tt))
+      (λ q. cond_of (NumberIs t) (bytes_eq (field_of 0 t) number_text) (λ h. by q ((bytes_eq-Decides (field_of 0 t) number_text).0 h) (decimal_of 1000000 (field_of 1 t)) refl) (λ _. tt))
       (λ _. tt)
     where
-      by : eqb (commas_of t) 1 ≡ true → field_of 0 t ≡ number_text → (w : Whole) → decimal_of 1000000 (field_of 1 t) ≡ w → NumberIs t w
-      by q f (Whole.Is k) e = let s = decimal_sound 1000000 (field_of 1 t) k e in ((omega arith, s.1, omega (arith, s.1)), two_fields t q f s.0)
-      by q f Whole.Not e = tt
+      by : eqb (commas_of t) 1 ≡ true → field_of 0 t ≡ number_text → (w : Option ℕ) → decimal_of 1000000 (field_of 1 t) ≡ w → NumberIs t w
+      by q f (Some k) e = let s = decimal_sound 1000000 (field_of 1 t) k e in ((omega arith, s.1, omega (arith, s.1)), two_fields t q f s.0)
+      by q f None e = tt
 
 -- a record of a word and one field is read by them
 module _ (w f : List ℕ) (p : Without 44 w) (q : Without 44 f) where
@@ -109,11 +108,10 @@ module _ (w : List ℕ) (p : Without 44 w) where
   unfolding record_of
   alone_word = record_first w [] p
 
-number_word : same_as number_text number_text ≡ true
-unfolding same_as
+number_word : bytes_eq number_text number_text ≡ true
 number_word = refl
 
-pub cell_complete : (c : Cell) → CellAllowed c → cell_from (cell_text c) ≡ Means c
+pub cell_complete : (c : Cell) → CellAllowed c → cell_from (cell_text c) ≡ Some c
 unfolding cell_from cell_by cell_text
 cell_complete Blank ok =
     let p : Without 44 blank_text = without 44 blank_text tt in
@@ -127,15 +125,15 @@ cell_complete (Measure x) ok =
     let p : Without 44 measure_text = without 44 measure_text tt in
     let q = hex_without 44 (omega arith) 16 b in
     rw (ap update_name_of (record_word measure_text (hex_text 16 b) p q) ∙ update_names.2, record_one measure_text (hex_text 16 b) p q)
-    (unfold measure_of in (rw (ap bits_of (record_rest measure_text (hex_text 16 b) p q) ∙ bits_complete b (float_word_lt x ok.fits)) (unfold finite_of in (rw (float_word_finite x ok.fits ok.finite) (ap (λ y. Means (Measure y)) (float_word_float x ok.fits))))))
+    (unfold measure_of in (rw (ap bits_of (record_rest measure_text (hex_text 16 b) p q) ∙ bits_complete b (float_word_lt x ok.fits)) (unfold finite_of in (rw (float_word_finite x ok.fits ok.finite) (ap (λ y. Some (Measure y)) (float_word_float x ok.fits))))))
 
-pub number_complete : (k : ℕ) → NumberAllowed k → number_from (number_record k) ≡ Whole.Is k
+pub number_complete : (k : ℕ) → NumberAllowed k → number_from (number_record k) ≡ Some k
 unfolding number_from number_record
 number_complete k ok =
     let p : Without 44 number_text = without 44 number_text tt in
     let q = decimal_without 44 (omega arith) k in
     rw (
       record_one number_text (decimal_text k) p q,
-      ap (λ (f : List ℕ). same_as f number_text) (record_word number_text (decimal_text k) p q) ∙ number_word,
+      ap (λ (f : List ℕ). bytes_eq f number_text) (record_word number_text (decimal_text k) p q) ∙ number_word,
       ap (decimal_of 1000000) (record_rest number_text (decimal_text k) p q) ∙ decimal_complete 1000000 k ok.1,
     )

@@ -3,7 +3,7 @@ use Rattle.std.specs.Prelude.{List, [], ◌∷◌, ◌++◌, ◌≡◌, ℕ, ◌
 use Rattle.cbor.specs.Code.{each}
 use Rattle.cells.specs.declared.Cell.{Cell}
 use Rattle.protocol.specs.declared.Refusal.TheVariants.{NoImage}
-use Rattle.sheet.specs.declared.Answer.TheVariants.{Value, Refused}
+use Rattle.protocol.specs.Machine.{value, refused}
 use Rattle.text.specs.Field.{record_of}
 use Rattle.text.specs.Text.{Put, decimal_text, ended}
 use Rattle.answers.specs.Answer.{answer_line}
@@ -11,7 +11,7 @@ use Rattle.coding.specs.Image.{image_of, Allowed, NotImage}
 
 -- blank, count,n or measure, and 16 upper-case hex digits
 abbrev pub cell_line : Cell → List ℕ
-cell_line c = answer_line (Value c)
+cell_line c = answer_line (value c)
 
 -- number,k
 abbrev pub number_text : List ℕ
@@ -30,6 +30,6 @@ image_text cells numbers = each cell_line cells ++ each number_line numbers
 
 -- The text of the image stands at the buffer's front, or the line `refused,12`.
 pub record Shown (bytes before after : List ℕ) (r : ℕ) : Type 0 where
-  pub no_image : NotImage bytes → Put before 0 (answer_line (Refused NoImage)) after r
+  pub no_image : NotImage bytes → Put before 0 (answer_line (refused NoImage)) after r
   pub text : (cells : List Cell) (numbers : List ℕ) → Allowed cells numbers → bytes ≡ image_of cells numbers → Put before 0 (image_text cells numbers) after r
   pub within : r ≤ length after

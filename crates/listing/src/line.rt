@@ -2,139 +2,97 @@
 ghost use Rattle.std.specs.Prelude.{◌≡◌, ◌≤◌, length};
 ghost use Rattle.listing.specs.Texts.{LineReadIs, count_of, finite_of, measure_of, cell_from, number_from, CellLineIs, NumberLineIs};
 
-use cbor::number::Number;
 use cells::Cell;
-use coding::cell::{CellRead, Meant};
 use lines::{Fed, feed, none};
-use text::field::{commas, field, same};
-use text::number::{Signed, Whole, bits, decimal, signed_decimal};
+use text::field::{commas, field};
+use text::number::{bits, decimal, signed_decimal};
 use wording::values::{UpdateName, update_name_of};
 use words::layout::MOST_PUSHES;
 
-// A line: how many bytes its text has, and the place behind its CR LF.
-#[derive(Clone, Copy)]
-pub enum LineRead {
-    Ends(usize, usize),
-    NoLine,
-}
-
-// The line from `from` on, its text into the front of `line`.
-fn line_from(s: &[u8], from: usize, line: &mut [u8]) -> LineRead
+// The line from `from` on, its text into the front of `line`: how many bytes the text has, and the place behind the line's CR LF.
+fn line_from(s: &[u8], from: usize, line: &mut [u8]) -> Option<(usize, usize)>
     requires { (from ≤ length s.now) × (81 ≤ length line.old) }
     ensures { LineReadIs s.now from line.new result }
 {
     let mut held = none();
-    let mut i = from;
-    while i < s.len() {
+    for i in from..s.len() {
         match feed(line, held, s[i]) {
-            Fed::More(p) => {
-                held = p;
-            }
-            Fed::Line(k) => return LineRead::Ends(k, i + 1),
-            Fed::Long => return LineRead::NoLine,
+            Fed::More(p) => held = p,
+            Fed::Line(k) => return Some((k, i + 1)),
+            Fed::Long => return None,
         }
-        i += 1;
     }
-    LineRead::NoLine
+    None
 }
 
-fn count_of(f: &[u8]) -> Meant
+#[tactic(auto, unfolding(crate::specs::Texts::count_of))]
+fn count_of(f: &[u8]) -> Option<Cell>
     ensures { result ≡ count_of f.now }
 {
-    match signed_decimal(f) {
-        Signed::Is(n) => Meant::Means(Cell::Count(n)),
-        Signed::Not => Meant::NoCell,
-    }
+    Some(Cell::Count(signed_decimal(f)?))
 }
 
-fn finite_of(n: u64) -> Meant
+#[tactic(auto, unfolding(crate::specs::Texts::finite_of))]
+fn finite_of(n: u64) -> Option<Cell>
     ensures { result ≡ finite_of n }
 {
     if cells::measured::finite_bits(n) {
-        return Meant::Means(Cell::Measure(cells::measured::f64_of_bits(n)));
+        Some(Cell::Measure(cells::measured::f64_of_bits(n)))
+    } else {
+        None
     }
-    Meant::NoCell
 }
 
-fn measure_of(f: &[u8]) -> Meant
+#[tactic(auto, unfolding(crate::specs::Texts::measure_of))]
+fn measure_of(f: &[u8]) -> Option<Cell>
     ensures { result ≡ measure_of f.now }
 {
-    match bits(f) {
-        Whole::Is(n) => finite_of(n),
-        Whole::Not => Meant::NoCell,
-    }
+    finite_of(bits(f)?)
 }
 
 // The cell that a text is.
-fn cell_from(t: &[u8]) -> Meant
+#[tactic(auto, unfolding(crate::specs::Texts::cell_from, crate::specs::Texts::cell_by))]
+fn cell_from(t: &[u8]) -> Option<Cell>
     ensures { result ≡ cell_from t.now }
 {
-    let n = commas(t);
-    match update_name_of(field(t, 0)) {
-        UpdateName::Blank => {
-            if n == 0 {
-                Meant::Means(Cell::Blank)
-            } else {
-                Meant::NoCell
-            }
-        }
-        UpdateName::Count => {
-            if n == 1 {
-                count_of(field(t, 1))
-            } else {
-                Meant::NoCell
-            }
-        }
-        UpdateName::Measure => {
-            if n == 1 {
-                measure_of(field(t, 1))
-            } else {
-                Meant::NoCell
-            }
-        }
-        UpdateName::Add => Meant::NoCell,
-        UpdateName::Unknown => Meant::NoCell,
+    match (update_name_of(field(t, 0))?, commas(t)) {
+        (UpdateName::Blank, 0) => Some(Cell::Blank),
+        (UpdateName::Count, 1) => count_of(field(t, 1)),
+        (UpdateName::Measure, 1) => measure_of(field(t, 1)),
+        _ => None,
     }
 }
 
 // The number of a device that a text is.
-fn number_from(t: &[u8]) -> Whole
+#[tactic(auto, unfolding(crate::specs::Texts::number_from))]
+fn number_from(t: &[u8]) -> Option<u64>
     ensures { result ≡ number_from t.now }
 {
-    if commas(t) == 1 {
-        if same(field(t, 0), b"number") {
-            return decimal(field(t, 1), MOST_PUSHES);
-        }
+    if commas(t) == 1 && field(t, 0) == b"number".as_slice() {
+        decimal(field(t, 1), MOST_PUSHES)
+    } else {
+        None
     }
-    Whole::Not
 }
 
-// The cell whose line stands at a place.
-pub fn cell_line(s: &[u8], at: usize) -> CellRead
+// The cell whose line stands at a place, and the place after it.
+pub fn cell_line(s: &[u8], at: usize) -> Option<(Cell, usize)>
     requires { at ≤ length s.now }
     ensures { CellLineIs s.now at result }
 {
     let mut line = [0u8; 81];
-    match line_from(s, at, &mut line) {
-        LineRead::Ends(k, next) => match cell_from(&line[..k]) {
-            Meant::Means(c) => CellRead::CellAt(c, next),
-            Meant::NoCell => CellRead::NoCellAt,
-        },
-        LineRead::NoLine => CellRead::NoCellAt,
-    }
+    let (k, next) = line_from(s, at, &mut line)?;
+    let c = cell_from(&line[..k])?;
+    Some((c, next))
 }
 
-// The number whose line stands at a place.
-pub fn number_line(s: &[u8], at: usize) -> Number
+// The number whose line stands at a place, and the place after it.
+pub fn number_line(s: &[u8], at: usize) -> Option<(u64, usize)>
     requires { at ≤ length s.now }
     ensures { NumberLineIs s.now at result }
 {
     let mut line = [0u8; 81];
-    match line_from(s, at, &mut line) {
-        LineRead::Ends(k, next) => match number_from(&line[..k]) {
-            Whole::Is(n) => Number::At(n, next),
-            Whole::Not => Number::Missing,
-        },
-        LineRead::NoLine => Number::Missing,
-    }
+    let (k, next) = line_from(s, at, &mut line)?;
+    let n = number_from(&line[..k])?;
+    Some((n, next))
 }

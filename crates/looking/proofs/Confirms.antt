@@ -13,7 +13,6 @@ use Rattle.protocol.specs.Machine.{choose, tell, says_yes, says_no, confirmed_at
 use Rattle.sheet.specs.Changes.{is_nothing, idle_below}
 use Rattle.sheet.proofs.Laws.{idle_at}
 use Rattle.sheet.specs.Sheet.{sheet}
-use Rattle.sheet.specs.declared.Answer.TheVariants.{Yes, No}
 use Rattle.words.specs.Layout.{CHANGE, ROUND, COVERED, PENDING_LENGTH, TRANSACTION, PENDING}
 use Rattle.words.specs.Place.{change_at, change_place, Decides}
 use Rattle.words.proofs.Tests.{true_false}
@@ -44,18 +43,18 @@ module _ (devices cells : ℕ) (xs : List ℕ) where
   none : (n : ℕ) → n ≤ 0 → eqb n 0 ≡ true
   none n h = eq-eqb n 0 (omega arith)
 
-  pub some_pending : 0 < get_or xs PENDING_LENGTH 0 → Tells devices cells (confirmed_at sheet cells) xs No
+  pub some_pending : 0 < get_or xs PENDING_LENGTH 0 → Tells devices cells (confirmed_at sheet cells) xs says_no
   some_pending h = answer_is false (eqb (get_or xs COVERED 0) 0) (idle_below cells (changes_at cells xs TRANSACTION)) (not_none _ h) refl refl
 
   module _ (p : get_or xs PENDING_LENGTH 0 ≤ 0) where
-    pub some_covered : 0 < get_or xs COVERED 0 → Tells devices cells (confirmed_at sheet cells) xs No
+    pub some_covered : 0 < get_or xs COVERED 0 → Tells devices cells (confirmed_at sheet cells) xs says_no
     some_covered h = answer_is true false (idle_below cells (changes_at cells xs TRANSACTION)) (none _ p) (not_none _ h) refl
 
     module _ (q : get_or xs COVERED 0 ≤ 0) (r : Bool) (D : Decides r ((k : ℕ) → k < cells → change_at xs (TRANSACTION + CHANGE * k) ≡ Nothing)) where
-      pub all_confirmed : r ≡ true → Tells devices cells (confirmed_at sheet cells) xs Yes
+      pub all_confirmed : r ≡ true → Tells devices cells (confirmed_at sheet cells) xs says_yes
       all_confirmed e = answer_is true true true (none _ p) (none _ q) (idle_is cells _ (λ c l. place_in change_place Nothing cells xs TRANSACTION c l ∙ D.sure e c l))
 
-      pub some_open : r ≡ false → Tells devices cells (confirmed_at sheet cells) xs No
+      pub some_open : r ≡ false → Tells devices cells (confirmed_at sheet cells) xs says_no
       some_open e = answer_is true true false (none _ p) (none _ q) (go (idle_below cells (changes_at cells xs TRANSACTION)) refl)
         where
           go : (t : Bool) → idle_below cells (changes_at cells xs TRANSACTION) ≡ t → t ≡ false

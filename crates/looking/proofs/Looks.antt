@@ -11,11 +11,9 @@ use Rattle.cells.specs.declared.Cell.TheVariants.{Blank}
 use Rattle.cells.specs.declared.Change.{Change}
 use Rattle.cells.specs.declared.Change.TheVariants.{Nothing}
 use Rattle.protocol.specs.declared.Refusal.TheVariants.{NoCell}
-use Rattle.protocol.specs.Machine.{apply_rounds, read_at, tell, value}
+use Rattle.protocol.specs.Machine.{apply_rounds, read_at, tell, value, Answer, refused}
 use Rattle.protocol.proofs.Basics.{apply_rounds_append}
 use Rattle.sheet.specs.Sheet.{sheet}
-use Rattle.sheet.specs.declared.Answer.{Answer}
-use Rattle.sheet.specs.declared.Answer.TheVariants.{Value, Refused}
 use Rattle.words.specs.Layout.{CELL, CHANGE, ROUND, ROUND_CHANGES, PENDING_LENGTH, KNOWN, TRANSACTION, BUFFERED, PENDING}
 use Rattle.words.specs.Place.{cell_at, change_at, cell_place, change_place}
 use Rattle.record.specs.Reading.{sheet_at, queue, round_at, device_of}
@@ -44,16 +42,16 @@ module _ (devices cells : ℕ) (xs : List ℕ) (k : ℕ) (h : k < cells) where
   unfolding after_rounds device_of
   all_applied j e p = rw (sym e) p
 
-  pub read_value : {s p v : Cell} {b t : Change} → s ≡ apply_rounds sheet (device_of devices cells xs).pending (device_of devices cells xs).known k → b ≡ change_at xs (BUFFERED + CHANGE * k) → p ≡ applied s b → t ≡ change_at xs (TRANSACTION + CHANGE * k) → v ≡ applied p t → Tells devices cells (read_at sheet cells k) xs (Value v)
+  pub read_value : {s p v : Cell} {b t : Change} → s ≡ apply_rounds sheet (device_of devices cells xs).pending (device_of devices cells xs).known k → b ≡ change_at xs (BUFFERED + CHANGE * k) → p ≡ applied s b → t ≡ change_at xs (TRANSACTION + CHANGE * k) → v ≡ applied p t → Tells devices cells (read_at sheet cells k) xs (value v)
   unfolding read_at device_of
   read_value a b c d e =
       rw (lt-leb cells k h)
       (sym (ap (λ (w : Cell). tell (value w)) (e ∙ (λ i. applied ((c ∙ (λ j. applied (a j) ((b ∙ sym (place_in change_place Nothing cells xs BUFFERED k h)) j))) i) ((d ∙ sym (place_in change_place Nothing cells xs TRANSACTION k h)) i)))))
 
-pub read_refused : (devices cells : ℕ) (xs : List ℕ) (k : ℕ) → cells ≤ k → Tells devices cells (read_at sheet cells k) xs (Refused NoCell)
+pub read_refused : (devices cells : ℕ) (xs : List ℕ) (k : ℕ) → cells ≤ k → Tells devices cells (read_at sheet cells k) xs (refused NoCell)
 unfolding read_at
 read_refused devices cells xs k h = rw (le-leb cells k h) refl
 
 -- The question that is known.
-pub tells_as : (devices cells : ℕ) (xs : List ℕ) (a : Answer) (p q : Question) → q ≡ p → Tells devices cells (question_of cells p) xs a → Tells devices cells (question_of cells q) xs a
+pub tells_as : (devices cells : ℕ) (xs : List ℕ) (a : Answer sheet) (p q : Question) → q ≡ p → Tells devices cells (question_of cells p) xs a → Tells devices cells (question_of cells q) xs a
 tells_as devices cells xs a p q e t = subst (λ (o : Question). Tells devices cells (question_of cells o) xs a) (sym e) t

@@ -4,39 +4,39 @@ ghost use Rattle.protocol.specs.Machine.{apply_rounds, read_at};
 ghost use Rattle.record.specs.Reading.{device_of};
 ghost use Rattle.record.specs.Valid.{IsRecord};
 ghost use Rattle.sheet.specs.Sheet.{sheet};
+ghost use Rattle.sheet.specs.Answer.{meaning};
 ghost use Rattle.record.specs.Did.{Tells};
 
-use cells::Cell;
 use cells::joining::apply;
+use cells::{Cell, Change};
 use protocol::Refusal;
 use sheet::Answer;
+use words::extent::Extent;
 use words::layout::{BUFFERED, KNOWN, PENDING, PENDING_LENGTH, ROUND, ROUND_CHANGES, TRANSACTION};
-use words::place::{get_cell, get_change};
+use words::place::get;
 
 // Cell k of the known sheet, with each pending round applied to it.
-fn with_pending(r: &[u64], devices: usize, cells: usize, k: usize) -> Cell
-    requires { IsRecord devices cells r.now × (k < cells) }
-    ensures { result ≡ apply_rounds sheet (device_of devices cells r.now).pending (device_of devices cells r.now).known k }
+fn with_pending(r: &[u64], extent: Extent, k: usize) -> Cell
+    requires { IsRecord extent.devices extent.cells r.now × (k < extent.cells) }
+    ensures { result ≡ apply_rounds sheet (device_of extent.devices extent.cells r.now).pending (device_of extent.devices extent.cells r.now).known k }
 {
     let n = r[PENDING_LENGTH] as usize;
-    let mut c = get_cell(r, KNOWN, k);
-    let mut j = 0;
-    while j < n {
-        c = apply(c, get_change(r, PENDING + ROUND * j + ROUND_CHANGES, k));
-        j += 1;
+    let mut c = get::<Cell>(r, KNOWN, k);
+    for j in 0..n {
+        c = apply(c, get::<Change>(r, PENDING + ROUND * j + ROUND_CHANGES, k));
     }
     c
 }
 
-pub fn read(r: &[u64], devices: usize, cells: usize, cell: u64) -> Answer
-    requires { IsRecord devices cells r.now }
-    ensures { Tells devices cells (read_at sheet cells cell) r.now result }
+pub fn read(r: &[u64], extent: Extent, cell: u64) -> Result<Answer, Refusal>
+    requires { IsRecord extent.devices extent.cells r.now }
+    ensures { Tells extent.devices extent.cells (read_at sheet extent.cells cell) r.now (meaning result) }
 {
-    if cell >= cells as u64 {
-        return Answer::Refused(Refusal::NoCell);
+    if cell >= extent.cells as u64 {
+        return Err(Refusal::NoCell);
     }
     let k = cell as usize;
-    let sent = with_pending(r, devices, cells, k);
-    let pushed = apply(sent, get_change(r, BUFFERED, k));
-    Answer::Value(apply(pushed, get_change(r, TRANSACTION, k)))
+    let sent = with_pending(r, extent, k);
+    let pushed = apply(sent, get::<Change>(r, BUFFERED, k));
+    Ok(Answer::Value(apply(pushed, get::<Change>(r, TRANSACTION, k))))
 }

@@ -5,12 +5,10 @@
 
 #![tactic(auto)]
 
-ghost use Rattle.std.specs.Prelude.{◌*◌, ◌≤◌, length};
-
 use cells::Cell;
-use cells::stored::{cell_kind, cell_payload, is_finite_cell};
+use cells::stored::{Stored, is_finite_cell};
 use probing::probe;
-use sheet::{Answer, number_of};
+use sheet::{Answer, BlockRefusal, number_of};
 use std::io::Read;
 use words::layout::{RECORD, RECORDS};
 
@@ -23,71 +21,17 @@ const HEAD: usize = 7;
 
 const LIST: usize = 16;
 
-fn wide(b: u8) -> u64 {
-    b as u64
-}
-
-// The word of eight bytes.
-fn word_of(b: &[u8]) -> u64 {
-    if b.len() < 8 {
-        return 0;
-    }
-    let low = wide(b[0]) | wide(b[1]) << 8 | wide(b[2]) << 16 | wide(b[3]) << 24;
-    let high = wide(b[4]) | wide(b[5]) << 8 | wide(b[6]) << 16 | wide(b[7]) << 24;
-    low | high << 32
-}
-
-fn low_byte(w: u64) -> u8 {
-    (w % 256) as u8
-}
-
-fn put(b: &mut [u8], i: usize, v: u8) {
-    if i < b.len() {
-        b[i] = v;
-    }
-}
-
-fn put_low(b: &mut [u8], w: u64) {
-    put(b, 0, low_byte(w));
-    put(b, 1, low_byte(w >> 8));
-    put(b, 2, low_byte(w >> 16));
-    put(b, 3, low_byte(w >> 24));
-}
-
-fn put_high(b: &mut [u8], w: u64) {
-    put(b, 4, low_byte(w));
-    put(b, 5, low_byte(w >> 8));
-    put(b, 6, low_byte(w >> 16));
-    put(b, 7, low_byte(w >> 24));
-}
-
-// Puts a word into eight bytes.
-fn put_word(b: &mut [u8], w: u64) {
-    put_low(b, w);
-    put_high(b, w >> 32);
-}
-
 // The words that stand in the bytes.
-fn unpack(words: &mut [u64], bytes: &[u8])
-    requires { length words.old * 8 ≤ length bytes.now }
-{
-    let mut i = 0;
-    while i < words.len() {
-        let a = i * 8;
-        words[i] = word_of(&bytes[a..]);
-        i += 1;
+fn unpack(words: &mut [u64], bytes: &[u8]) {
+    for (word, eight) in words.iter_mut().zip(bytes.as_chunks::<8>().0) {
+        *word = u64::from_le_bytes(*eight);
     }
 }
 
 // Puts the words into the bytes.
-fn pack(words: &[u64], bytes: &mut [u8])
-    requires { length words.now * 8 ≤ length bytes.old }
-{
-    let mut i = 0;
-    while i < words.len() {
-        let a = i * 8;
-        put_word(&mut bytes[a..], words[i]);
-        i += 1;
+fn pack(words: &[u64], bytes: &mut [u8]) {
+    for (word, eight) in words.iter().zip(bytes.chunks_exact_mut(8)) {
+        eight.copy_from_slice(&word.to_le_bytes());
     }
 }
 
@@ -117,25 +61,21 @@ fn write_words(rt: &impl Print, words: &[u64], bytes: &mut [u8]) -> bool {
 }
 
 fn cell_words(c: Cell) -> [u64; 3] {
-    let payload = if is_finite_cell(c) {
-        cell_payload(c)
-    } else {
-        0
-    };
-    [1, cell_kind(c), payload]
+    let payload = if is_finite_cell(c) { c.payload() } else { 0 };
+    [1, c.kind(), payload]
 }
 
 // An answer in three words: its kind, and what it says.
-fn answer_words(a: Answer) -> [u64; 3] {
+fn answer_words(a: Result<Answer, BlockRefusal>) -> [u64; 3] {
     match a {
-        Answer::Done => [0, 0, 0],
-        Answer::Value(c) => cell_words(c),
-        Answer::Yes => [2, 0, 0],
-        Answer::No => [3, 0, 0],
-        Answer::Moved(k) => [4, k, 0],
-        Answer::Length(k) => [5, k, 0],
-        Answer::Refused(r) => [6, number_of(r), 0],
-        Answer::RefusedAt(r, k) => [7, number_of(r), k],
+        Ok(Answer::Done) => [0, 0, 0],
+        Ok(Answer::Value(c)) => cell_words(c),
+        Ok(Answer::Yes) => [2, 0, 0],
+        Ok(Answer::No) => [3, 0, 0],
+        Ok(Answer::Moved(k)) => [4, k, 0],
+        Ok(Answer::Length(k)) => [5, k, 0],
+        Err(BlockRefusal::Call(r)) => [6, number_of(r), 0],
+        Err(BlockRefusal::Update(r, k)) => [7, number_of(r), k],
     }
 }
 
@@ -195,13 +135,12 @@ fn turn(rt: &(impl Input + Print), t: &mut [u64], list: &mut [u64], bytes: &mut 
     write_first(rt, t, n, bytes)
 }
 
-// A proved loop has to end, so it counts its turns down, from a number that no run uses up.
+// A proved loop has to end, so the records are counted, up to a number that no run reaches.
 fn run(rt: &(impl Input + Print), t: &mut [u64], list: &mut [u64], bytes: &mut [u8]) {
-    let mut turns = u64::MAX;
-    let mut more = true;
-    while turns > 0 && more {
-        more = turn(rt, t, list, bytes);
-        turns -= 1;
+    for _ in 0..u64::MAX {
+        if !turn(rt, t, list, bytes) {
+            return;
+        }
     }
 }
 

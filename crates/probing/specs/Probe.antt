@@ -7,9 +7,9 @@ use Rattle.std.proofs.Common.{to_z}
 use Rattle.cells.specs.Finite.{finite_word}
 use Rattle.cells.specs.declared.Cell.TheVariants.{Blank, Count, Measure}
 use Rattle.cells.specs.declared.Update.{Update}
-use Rattle.protocol.specs.Machine.{choose}
+use Rattle.protocol.specs.Machine.{choose, Answer}
 use Rattle.protocol.specs.Machine as machine
-use Rattle.sheet.specs.declared.Answer.{Answer}
+use Rattle.sheet.specs.Sheet.{sheet}
 use Rattle.device.specs.Named.{update_of}
 use Rattle.table.specs.Promise.{Started}
 use Rattle.table.specs.Asked.{Asked, no_step, start, machine_step, DoesWith}
@@ -62,9 +62,9 @@ numbered (q ∷ qs) zero = q
 numbered (q ∷ qs) (suc n) = numbered qs n
 
 -- The promise of the call of a number. a and b are its numbers: devices and cells, a device and a cell, a device and how many entries, a reach.
-pub record Probed (call a b : ℕ) (u : Update) (ws xs : List ℕ) (r : Answer) (ys : List ℕ) : Type 0 where
+pub record Probed (call a b : ℕ) (u : Update) (ws xs : List ℕ) (r : Answer sheet) (ys : List ℕ) : Type 0 where
   pub holds : DoesWith Started (numbered (calls a b u ws) call) xs r ys
 
 -- No second outcome fits, whatever the number, the arguments and the words.
 abbrev pub OneProbe : Type 0
-OneProbe = (call a b : ℕ) (u : Update) (ws xs : List ℕ) (r s : Answer) (ys zs : List ℕ) → Probed call a b u ws xs r ys → Probed call a b u ws xs s zs → (r ≡ s) × (ys ≡ zs)
+OneProbe = (call a b : ℕ) (u : Update) (ws xs : List ℕ) (r s : Answer sheet) (ys zs : List ℕ) → Probed call a b u ws xs r ys → Probed call a b u ws xs s zs → (r ≡ s) × (ys ≡ zs)

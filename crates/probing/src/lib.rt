@@ -2,10 +2,11 @@
 
 #![tactic(auto)]
 
-ghost use Rattle.std.specs.Prelude.{◌≡◌, ◌≤◌, min, take};
+ghost use Rattle.std.specs.Prelude.{◌≡◌, ◌≢◌, ◌≤◌, min, take};
 ghost use Rattle.protocol.specs.Machine.{step};
 ghost use Rattle.protocol.specs.Machine as machine;
 ghost use Rattle.sheet.specs.Sheet.{sheet};
+ghost use Rattle.sheet.specs.Answer.{meaning, block_meaning};
 ghost use Rattle.table.specs.Promise.{Stepped};
 ghost use Rattle.block.specs.Block.{updates_in};
 ghost use Rattle.probing.specs.Probe.{measured_from, update_from, entry_at, entries_in, Probed};
@@ -17,7 +18,7 @@ use cells::{Cell, Update};
 use devices::calls::{ask, confirmed, give_up, pull, push, read, receive, send, update};
 use protocol::Refusal;
 use server::calls::{accept, batch, crash, cut, serverdrop};
-use sheet::Answer;
+use sheet::{Answer, BlockRefusal};
 use table::begin::start;
 use words::list::word_at;
 
@@ -73,19 +74,18 @@ fn entries_in(list: &[u64]) -> [Entry; 4]
 fn at_most_4(n: u64) -> usize
     ensures { result ≡ min n 4 }
 {
-    if n < 4 { n as usize } else { 4 }
+    n.min(4) as usize
 }
 
 // A block of the first n of the entries in the list.
-fn paste(t: &mut [u64], d: u64, n: u64, list: &[u64]) -> Answer
-    ensures { Stepped (step sheet (machine.block d (updates_in (take (min n 4) (entries_in list.now))))) t.old result t.new }
+fn paste(t: &mut [u64], d: u64, n: u64, list: &[u64]) -> Result<Answer, BlockRefusal>
+    ensures { Stepped (step sheet (machine.block d (updates_in (take (min n 4) (entries_in list.now))))) t.old (block_meaning result) t.new }
 {
     block_of(t, d, entries_in(list), at_most_4(n))
 }
 
-// The call of a number, with the numbers that it takes: a and b are devices and cells, or a device and a cell, or a device and how many
-// entries, or the reach of a cut; the list has the counts, or the entries. A number that is no call's is refused 13.
-pub fn probe(
+// The call of a number other than the block's.
+fn call_of(
     t: &mut [u64],
     call: u64,
     a: u64,
@@ -93,8 +93,9 @@ pub fn probe(
     kind: u64,
     payload: u64,
     list: &[u64],
-) -> Answer
-    ensures { Probed call a b (update_from kind payload) list.now t.old result t.new }
+) -> Result<Answer, Refusal>
+    requires { call ≢ 15 }
+    ensures { Probed call a b (update_from kind payload) list.now t.old (meaning result) t.new }
 {
     match call {
         0 => start(t, a, b),
@@ -112,7 +113,25 @@ pub fn probe(
         12 => crash(t),
         13 => batch(t, list),
         14 => cut(t, list, a),
+        _ => Err(Refusal::NoStep),
+    }
+}
+
+// The call of a number, with the numbers that it takes: a and b are devices and cells, or a device and a cell, or a device and how many
+// entries, or the reach of a cut; the list has the counts, or the entries. A number that is no call's is refused 13.
+pub fn probe(
+    t: &mut [u64],
+    call: u64,
+    a: u64,
+    b: u64,
+    kind: u64,
+    payload: u64,
+    list: &[u64],
+) -> Result<Answer, BlockRefusal>
+    ensures { Probed call a b (update_from kind payload) list.now t.old (block_meaning result) t.new }
+{
+    match call {
         15 => paste(t, a, b, list),
-        _ => Answer::Refused(Refusal::NoStep),
+        _ => Ok(call_of(t, call, a, b, kind, payload, list)?),
     }
 }

@@ -10,8 +10,6 @@ use lib.ListN.{length, take, set, length-set}
 use Rattle.protocol.specs.declared.Refusal.TheVariants.{NoStep}
 use Rattle.protocol.specs.Machine.{Table, refused}
 use Rattle.sheet.specs.Sheet.{sheet}
-use Rattle.sheet.specs.Answer.{written}
-use Rattle.sheet.specs.declared.Answer.{Answer}
 use Rattle.lines.specs.Lines.{ends_line, next_of, ended_in, unended_after}
 use Rattle.lines.specs.Held.{Held, nothing, fed_of, buffer_after}
 use Rattle.lines.specs.declared.Unended.{Unended}
@@ -22,8 +20,9 @@ use Rattle.lines.proofs.Chunks.{unended_append, ended_append}
 use Rattle.lines.proofs.Feeding.{ended_by, left_by, fed_more, fed_line, fed_long, ended_one, unended_one}
 use Rattle.answers.specs.Answer.{answer_line}
 use Rattle.steps.proofs.Exactly.{long_line}
+use Rattle.std.specs.Prelude as std
 use Rattle.steps.specs.declared.parse.Step.{Step}
-use Rattle.answering.specs.Program.{Reply, asked, reply_to, devices_of, answer_to, answers_to, table_after}
+use Rattle.answering.specs.Program.{Reply, asked_by, reply_to, devices_of, answer_to, answers_to, table_after}
 use Rattle.stepping.specs.Bytes.{Standing, Told, held_by, ByteFed}
 use Rattle.program.specs.Claims.{Holds, FedAsTheMachine, FeedsAsTheMachine}
 use Rattle.program.proofs.Replies.{answers_as_the_machine}
@@ -33,8 +32,8 @@ pub answers_append : (s : Option (Table sheet)) (a b : List (List ℕ)) → answ
 unfolding answers_to table_after
 answers_append s [] b = refl
 answers_append s (line ∷ a) b =
-    ap (λ (l : List ℕ). answer_line (written (answer_to s line).answer) ++ l) (answers_append (answer_to s line).table a b)
-    ∙ sym (append_assoc (answer_line (written (answer_to s line).answer)) (answers_to (answer_to s line).table a) (answers_to (table_after (answer_to s line).table a) b))
+    ap (λ (l : List ℕ). answer_line (answer_to s line).answer ++ l) (answers_append (answer_to s line).table a b)
+    ∙ sym (append_assoc (answer_line (answer_to s line).answer) (answers_to (answer_to s line).table a) (answers_to (table_after (answer_to s line).table a) b))
 
 table_append : (s : Option (Table sheet)) (a b : List (List ℕ)) → table_after s (a ++ b) ≡ table_after (table_after s a) b
 unfolding table_after
@@ -55,16 +54,16 @@ module _ (s : Option (Table sheet)) (xs text ys : List ℕ) (H : Holds s xs) whe
   unfolding answers_to table_after
   replied_line k n buffer e (a, A, f) =
       let o = answers_as_the_machine s k xs a ys H (rw e at A) in
-      record { text_is = f ∙ ap answer_line o.0 ∙ sym (append-nil (answer_line (written (answer_to s k).answer))); holds = o.1 }
+      record { text_is = f ∙ ap answer_line o.0 ∙ sym (append-nil (answer_line (answer_to s k).answer)); holds = o.1 }
 
   long_answer : (k : List ℕ) → 80 < length k → answer_to s k ≡ record { answer = refused NoStep; table = s }
   unfolding answer_to
-  long_answer k h = ap (λ (t : Step). reply_to s (asked t)) (long_line (devices_of s) k h)
+  long_answer k h = ap (λ (t : std.Option Step). reply_to s (asked_by t)) (long_line (devices_of s) k h)
 
   pub replied_long : (k buffer : List ℕ) → 80 < length k → Told Long buffer xs text ys → Replied s (k ∷ []) text ys
   unfolding answers_to table_after
   replied_long k buffer h (e, f) = record {
-    text_is = e ∙ sym (append-nil (answer_line (Answer.Refused NoStep))) ∙ ap (λ (r : Reply). answer_line (written r.answer) ++ []) (sym (long_answer k h));
+    text_is = e ∙ sym (append-nil (answer_line (refused NoStep))) ∙ ap (λ (r : Reply). answer_line r.answer ++ []) (sym (long_answer k h));
     holds = subst (λ (r : Reply). Holds r.table ys) (sym (long_answer k h)) (subst (Holds s) (sym f) H);
   }
 

@@ -4,7 +4,8 @@ use mathlib.Core.List.{List, [], ◌∷◌, ◌++◌}
 use Prim.Native.Nat.{ℕ}
 use Rattle.protocol.specs.declared.Refusal.TheVariants.{NoTable, OutsideAllowed}
 use Rattle.protocol.specs.Fits.{Sizes}
-use Rattle.sheet.specs.declared.Answer.{Answer}
+use Rattle.protocol.specs.Machine.{Answer}
+use Rattle.sheet.specs.Sheet.{sheet}
 use Rattle.words.specs.Layout.{DEVICES}
 use Rattle.table.proofs.Once.{refused_once, either_way, one_start, does_once}
 use Rattle.text.specs.Text.{Put}
@@ -14,20 +15,20 @@ use Rattle.lines.specs.declared.Fed.{Fed}
 use Rattle.lines.specs.declared.Fed.TheVariants.{More, Line, Long}
 use Rattle.steps.specs.Parse.{parse_line}
 use Rattle.answers.specs.Answer.{answer_line}
-use Rattle.answering.specs.Program.{asked}
+use Rattle.answering.specs.Program.{asked_by}
 use Rattle.answering.specs.Answered.{Small, StartedSmall}
 use Rattle.stepping.specs.Bytes.{Standing, Told, ByteFed, BytesFed}
 use Rattle.program.specs.Claims.{OneAnswer, OneChunk, OneEnd}
 use lib.ListN.{get_or, take}
 
-module _ (xs : List ℕ) (a b : Answer) (ys zs : List ℕ) where
+module _ (xs : List ℕ) (a b : Answer sheet) (ys zs : List ℕ) where
   start_once : (devices cells : ℕ) → StartedSmall devices cells xs a ys → StartedSmall devices cells xs b zs → (a ≡ b) × (ys ≡ zs)
   start_once devices cells A B = either_way (Sizes devices cells) a b ys zs
       (λ z. either_way (Small devices cells) a b ys zs (λ m. one_start devices cells xs ys zs a b (A.begun z m) (B.begun z m)) (λ n. refused_once NoTable xs ys zs a b (A.large z n) (B.large z n)))
       (λ n. refused_once OutsideAllowed xs ys zs a b (A.outside n) (B.outside n))
 
 pub one_answer : OneAnswer
-one_answer line xs a b ys zs A B = does_once StartedSmall xs ys zs a b (start_once xs a b ys zs) (asked (parse_line (get_or xs DEVICES 0) line)) A B
+one_answer line xs a b ys zs A B = does_once StartedSmall xs ys zs a b (start_once xs a b ys zs) (asked_by (parse_line (get_or xs DEVICES 0) line)) A B
 
 -- what is told of a byte, and at the end
 told_once : (f : Fed) (buffer xs s ys t zs : List ℕ) → Told f buffer xs s ys → Told f buffer xs t zs → (s ≡ t) × (ys ≡ zs)

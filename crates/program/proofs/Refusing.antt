@@ -1,5 +1,5 @@
 -- When the program refuses a line of its own accord, and that a refusal keeps the table. Assumes nothing.
-use mathlib.Core.Path.{◌≡◌, refl, sym, ap, ◌∙◌}
+use mathlib.Core.Path.{◌≡◌, refl, sym, ap, subst, ◌∙◌}
 use mathlib.Core.Bool.{Bool, true, false, false≢true}
 use mathlib.Core.Logic.{◌⊎◌, inl, inr}
 use mathlib.Core.List.{List}
@@ -14,12 +14,13 @@ use Rattle.protocol.specs.Fits.{Sizes}
 use Rattle.sheet.specs.Sheet.{sheet}
 use Rattle.sheet.proofs.Theorem.{refusal_changes_nothing}
 use Rattle.sheet.proofs.OneAnswer.{done_refused}
+use Rattle.std.specs.Prelude as std
 use Rattle.steps.specs.Grammar.{LineOf}
 use Rattle.steps.specs.Parse.{parse_line}
 use Rattle.steps.specs.declared.parse.Step.{Step}
 use Rattle.steps.proofs.Exactly.{is_step, step_is, no_step_is, none_step}
 use Rattle.table.specs.Asked.{Asked, no_step, start, machine_step}
-use Rattle.answering.specs.Program.{Reply, asked, allowed, small, start_from, step_from, reply_to, devices_of, answer_to}
+use Rattle.answering.specs.Program.{Reply, asked, asked_by, allowed, small, start_from, step_from, reply_to, devices_of, answer_to}
 use Rattle.answering.specs.Answered.{Small}
 use Rattle.program.specs.Claims.{RefusalKeepsTheTable, Refusals, RefusedExactlyWhen}
 use Rattle.program.proofs.Replies.{sizes_of, of_sizes, small_of, of_small}
@@ -41,40 +42,30 @@ module _ (devices cells : ℕ) where
   is_start (Step.Start a b) e = cc
   is_start (Step.Update a b u) e = absurd (not_start _ e)
   is_start (Step.Read a b) e = absurd (not_start _ e)
-  is_start (Step.Push a) e = absurd (not_start _ e)
-  is_start (Step.Send a) e = absurd (not_start _ e)
-  is_start (Step.Confirmed a) e = absurd (not_start _ e)
-  is_start (Step.Ask a) e = absurd (not_start _ e)
-  is_start (Step.Drop a) e = absurd (not_start _ e)
-  is_start (Step.Receive a) e = absurd (not_start _ e)
-  is_start (Step.Pull a) e = absurd (not_start _ e)
-  is_start (Step.Accept a) e = absurd (not_start _ e)
-  is_start (Step.Serverdrop a) e = absurd (not_start _ e)
+  is_start (Step.Device act a) e = absurd (not_start _ e)
   is_start Step.Crash e = absurd (not_start _ e)
   is_start (Step.Batch a) e = absurd (not_start _ e)
   is_start (Step.Cut a b) e = absurd (not_start _ e)
-  is_start Step.NoStep e = absurd (none_start e)
 
 not_none : (m : machine.Step sheet) → machine_step m ≡ no_step → ⊥
 not_none m e = let z : ◌≡◌ {A = ℕ} 0 1 = cc in omega arith
 
-is_none : (t : Step) → asked t ≡ no_step → t ≡ Step.NoStep
-is_none (Step.Start a b) e = absurd (none_start a b (sym e))
-is_none (Step.Update a b u) e = absurd (not_none _ e)
-is_none (Step.Read a b) e = absurd (not_none _ e)
-is_none (Step.Push a) e = absurd (not_none _ e)
-is_none (Step.Send a) e = absurd (not_none _ e)
-is_none (Step.Confirmed a) e = absurd (not_none _ e)
-is_none (Step.Ask a) e = absurd (not_none _ e)
-is_none (Step.Drop a) e = absurd (not_none _ e)
-is_none (Step.Receive a) e = absurd (not_none _ e)
-is_none (Step.Pull a) e = absurd (not_none _ e)
-is_none (Step.Accept a) e = absurd (not_none _ e)
-is_none (Step.Serverdrop a) e = absurd (not_none _ e)
-is_none Step.Crash e = absurd (not_none _ e)
-is_none (Step.Batch a) e = absurd (not_none _ e)
-is_none (Step.Cut a b) e = absurd (not_none _ e)
-is_none Step.NoStep e = refl
+no_step_asked : (t : Step) → asked t ≡ no_step → ⊥
+no_step_asked (Step.Start a b) e = none_start a b (sym e)
+no_step_asked (Step.Update a b u) e = not_none _ e
+no_step_asked (Step.Read a b) e = not_none _ e
+no_step_asked (Step.Device act a) e = not_none _ e
+no_step_asked Step.Crash e = not_none _ e
+no_step_asked (Step.Batch a) e = not_none _ e
+no_step_asked (Step.Cut a b) e = not_none _ e
+
+is_none : (o : std.Option Step) → asked_by o ≡ no_step → o ≡ std.None
+is_none (std.Some t) e = absurd (no_step_asked t e)
+is_none std.None e = refl
+
+is_step_asked : (o : std.Option Step) (a : Asked) → (a ≡ no_step → ⊥) → asked_by o ≡ a → (t : Step) × (o ≡ std.Some t) × (asked t ≡ a)
+is_step_asked (std.Some t) a n e = (t, refl, e)
+is_step_asked std.None a n e = absurd (n (sym e))
 
 -- the three ways in which a start ends
 module _ (s : Option (Table sheet)) (devices cells : ℕ) where
@@ -117,18 +108,22 @@ step_13 (some t) m e = not_machine m t (refused NoStep) refl e
 
 module _ (s : Option (Table sheet)) (line : List ℕ) where
   -- the line of a step that the machine has or that starts
-  line_of : (t : Step) → parse_line (devices_of s) line ≡ t → (asked t ≡ no_step → ⊥) → LineOf (devices_of s) t line
-  line_of t e h = step_is (devices_of s) t line (λ z. h (ap asked z)) e
+  line_of : (a : Asked) → (a ≡ no_step → ⊥) → asked_by (parse_line (devices_of s) line) ≡ a → (t : Step) × LineOf (devices_of s) t line × (asked t ≡ a)
+  line_of a n e =
+      let k = is_step_asked (parse_line (devices_of s) line) a n e in
+      (k.0, step_is (devices_of s) k.0 line k.1, k.2)
 
-  start_line : (devices cells : ℕ) → asked (parse_line (devices_of s) line) ≡ start devices cells → LineOf (devices_of s) (Step.Start devices cells) line
-  start_line devices cells e = line_of (Step.Start devices cells) (is_start devices cells (parse_line (devices_of s) line) e) (λ z. none_start devices cells (sym z))
+  start_line : (devices cells : ℕ) → asked_by (parse_line (devices_of s) line) ≡ start devices cells → LineOf (devices_of s) (Step.Start devices cells) line
+  start_line devices cells e =
+      let k = line_of (start devices cells) (λ z. none_start devices cells (sym z)) e in
+      subst (λ (t : Step). LineOf (devices_of s) t line) (is_start devices cells k.0 k.2) k.1
 
   -- the answer to a step's line
   answered_so : (t : Step) → LineOf (devices_of s) t line → answer_to s line ≡ reply_to s (asked t)
   unfolding answer_to
-  answered_so t l = ap (λ (u : Step). reply_to s (asked u)) (is_step (devices_of s) t line l)
+  answered_so t l = ap (λ (u : std.Option Step). reply_to s (asked_by u)) (is_step (devices_of s) t line l)
 
-  to_13 : (a : Asked) → asked (parse_line (devices_of s) line) ≡ a → (reply_to s a).answer ≡ refused NoStep → parse_line (devices_of s) line ≡ Step.NoStep
+  to_13 : (a : Asked) → asked_by (parse_line (devices_of s) line) ≡ a → (reply_to s a).answer ≡ refused NoStep → parse_line (devices_of s) line ≡ std.None
   to_13 no_step e q = is_none (parse_line (devices_of s) line) e
   to_13 (start d c) e q = absurd (by (ends s d c))
     where
@@ -138,7 +133,7 @@ module _ (s : Option (Table sheet)) (line : List ℕ) where
       by (is_outside z f) = case2_not_13 (start_from s d c).answer (ap (λ (r : Reply). r.answer) f) q
   to_13 (machine_step m) e q = absurd (step_13 s m q)
 
-  to_2 : (a : Asked) → asked (parse_line (devices_of s) line) ≡ a → (reply_to s a).answer ≡ refused OutsideAllowed → (devices : ℕ) × (cells : ℕ) × LineOf (devices_of s) (Step.Start devices cells) line × (Sizes devices cells → ⊥)
+  to_2 : (a : Asked) → asked_by (parse_line (devices_of s) line) ≡ a → (reply_to s a).answer ≡ refused OutsideAllowed → (devices : ℕ) × (cells : ℕ) × LineOf (devices_of s) (Step.Start devices cells) line × (Sizes devices cells → ⊥)
   to_2 no_step e q = absurd (case2_not_13 (refused NoStep) q refl)
   to_2 (start d c) e q = (d, c, start_line d c e, λ z. by z (ends s d c))
     where
@@ -154,7 +149,7 @@ module _ (s : Option (Table sheet)) (line : List ℕ) where
   abbrev Before : Type 0
   Before = (s ≡ none) × (t : Step) × (m : machine.Step sheet) × LineOf (devices_of s) t line × (asked t ≡ machine_step m)
 
-  to_1 : (a : Asked) → asked (parse_line (devices_of s) line) ≡ a → (reply_to s a).answer ≡ refused NoTable → Large ⊎ Before
+  to_1 : (a : Asked) → asked_by (parse_line (devices_of s) line) ≡ a → (reply_to s a).answer ≡ refused NoTable → Large ⊎ Before
   to_1 no_step e q = absurd (case1_not_13 (refused NoStep) q refl)
   to_1 (start d c) e q = by (ends s d c)
     where
@@ -162,11 +157,11 @@ module _ (s : Option (Table sheet)) (line : List ℕ) where
       by (begins z m f) = absurd (done_refused (start_from s d c).answer NoTable f q)
       by (is_large z m f) = inl (d, c, start_line d c e, z, m)
       by (is_outside z f) = absurd (case1_not_2 (start_from s d c).answer q (ap (λ (r : Reply). r.answer) f))
-  to_1 (machine_step m) e q = inr (step_1 s m q, parse_line (devices_of s) line, m, line_of (parse_line (devices_of s) line) refl (λ z. not_none m (sym e ∙ z)), e)
+  to_1 (machine_step m) e q = let k = line_of (machine_step m) (not_none m) e in inr (step_1 s m q, k.0, m, k.1, k.2)
 
   from_13 : ((t : Step) → LineOf (devices_of s) t line → ⊥) → (answer_to s line).answer ≡ refused NoStep
   unfolding answer_to
-  from_13 h = ap (λ (u : Step). (reply_to s (asked u)).answer) (none_step (devices_of s) line h)
+  from_13 h = ap (λ (u : std.Option Step). (reply_to s (asked_by u)).answer) (none_step (devices_of s) line h)
 
   from_2 : (d c : ℕ) → LineOf (devices_of s) (Step.Start d c) line → (Sizes d c → ⊥) → (answer_to s line).answer ≡ refused OutsideAllowed
   from_2 d c l h = ap (λ (r : Reply). r.answer) (answered_so (Step.Start d c) l) ∙ by (ends s d c)
@@ -197,9 +192,9 @@ module _ (s : Option (Table sheet)) (line : List ℕ) where
   refusals : Refusals s line
   unfolding answer_to
   refusals = record {
-    refused_13 = (λ q. no_step_is (devices_of s) line (to_13 (asked (parse_line (devices_of s) line)) refl q), from_13);
-    refused_2 = (to_2 (asked (parse_line (devices_of s) line)) refl, λ h. from_2 h.0 h.1 h.2 h.3);
-    refused_1 = (to_1 (asked (parse_line (devices_of s) line)) refl, from_1);
+    refused_13 = (λ q. no_step_is (devices_of s) line (to_13 (asked_by (parse_line (devices_of s) line)) refl q), from_13);
+    refused_2 = (to_2 (asked_by (parse_line (devices_of s) line)) refl, λ h. from_2 h.0 h.1 h.2 h.3);
+    refused_1 = (to_1 (asked_by (parse_line (devices_of s) line)) refl, from_1);
   }
 
 pub refused_exactly_when : RefusedExactlyWhen
@@ -219,4 +214,4 @@ keeps (some t) (machine_step m) r q = ap some ((refusal_changes_nothing m t r).0
 
 pub refusal_keeps_the_table : RefusalKeepsTheTable
 unfolding answer_to
-refusal_keeps_the_table s line r q = keeps s (asked (parse_line (devices_of s) line)) r q
+refusal_keeps_the_table s line r q = keeps s (asked_by (parse_line (devices_of s) line)) r q

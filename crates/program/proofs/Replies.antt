@@ -11,13 +11,9 @@ use lib.ListN.{length, get_or, replicate, length-replicate}
 use Rattle.cells.proofs.Laws.{both_true}
 use Rattle.protocol.specs.declared.Refusal.{Refusal}
 use Rattle.protocol.specs.declared.Refusal.TheVariants.{NoTable}
-use Rattle.protocol.specs.Machine.{Table, Step, step, fresh, refused}
-use Rattle.protocol.specs.Machine as machine
+use Rattle.protocol.specs.Machine.{Table, Step, step, fresh, refused, Answer, done}
 use Rattle.protocol.specs.Fits.{Sizes, Fits}
 use Rattle.sheet.specs.Sheet.{sheet, started}
-use Rattle.sheet.specs.Answer.{meaning, written}
-use Rattle.sheet.specs.declared.Answer.{Answer}
-use Rattle.sheet.proofs.OneAnswer.{written_meaning}
 use Rattle.sheet.proofs.Theorem.{reached_fits}
 use Rattle.sheet.proofs.Runs.{run_append}
 use Rattle.words.specs.Layout.{DEVICES}
@@ -25,12 +21,9 @@ use Rattle.table.specs.Table.{need, reading, IsTable}
 use Rattle.table.specs.Promise.{RefusedWith, Stepped}
 use Rattle.steps.specs.Parse.{parse_line}
 use Rattle.table.specs.Asked.{Asked, no_step, start, machine_step}
-use Rattle.answering.specs.Program.{asked, allowed, small, start_from, step_from, reply_to, devices_of, answer_to, table_after}
+use Rattle.answering.specs.Program.{asked_by, allowed, small, start_from, step_from, reply_to, devices_of, answer_to, table_after}
 use Rattle.answering.specs.Answered.{Small, StartedSmall, Does}
 use Rattle.program.specs.Claims.{ZerosHoldNoTable, Reached, Holds, AnswersAsTheMachine, AnswersEveryLine}
-
-written_as : (a : Answer) (m : machine.Answer sheet) → meaning a ≡ m → a ≡ written m
-written_as a m e = sym (written_meaning a) ∙ ap written e
 
 -- the bounds of a start, and the tests of them
 module _ (devices cells : ℕ) where
@@ -51,30 +44,30 @@ module _ (devices cells : ℕ) where
   of_small s = rw (le-leb devices 3 s.devices_to_3, le-leb cells 16 s.cells_to_16)
 
 -- a refusal keeps what the words hold
-module _ (s : Option (Table sheet)) (xs : List ℕ) (a : Answer) (ys : List ℕ) (H : Holds s xs) where
-  refusal_holds : (r : Refusal) → RefusedWith r xs a ys → (a ≡ written (refused r)) × Holds s ys
-  refusal_holds r R = (written_as a (refused r) R.number, subst (Holds s) (sym R.untouched) H)
+module _ (s : Option (Table sheet)) (xs : List ℕ) (a : Answer sheet) (ys : List ℕ) (H : Holds s xs) where
+  refusal_holds : (r : Refusal) → RefusedWith r xs a ys → (a ≡ refused r) × Holds s ys
+  refusal_holds r R = (R.number, subst (Holds s) (sym R.untouched) H)
 
 room_held : (s : Option (Table sheet)) (xs : List ℕ) → Holds s xs → need 3 ≤ length xs
 room_held none xs H = H.1
 room_held (some t) xs H = H.3
 
 -- a start
-module _ (s : Option (Table sheet)) (devices cells : ℕ) (xs : List ℕ) (a : Answer) (ys : List ℕ) (H : Holds s xs) (S : StartedSmall devices cells xs a ys) where
-  started_holds : Sizes devices cells → Small devices cells → (a ≡ Answer.Done) × Holds (some (fresh sheet (started devices cells))) ys
+module _ (s : Option (Table sheet)) (devices cells : ℕ) (xs : List ℕ) (a : Answer sheet) (ys : List ℕ) (H : Holds s xs) (S : StartedSmall devices cells xs a ys) where
+  started_holds : Sizes devices cells → Small devices cells → (a ≡ done) × Holds (some (fresh sheet (started devices cells))) ys
   started_holds z m =
       let r = room_held s xs H in
       let d = m.devices_to_3 in
       let B = (S.begun z m).begun z (omega arith) in (
-        written_as a machine.done B.0,
+        B.0,
         (B.1.valid, B.1.says, record { devices = devices; cells = cells; sizes = z; steps = []; is = refl }, omega (arith, B.1.size)),
       )
 
-  start_is : (a ≡ written (start_from s devices cells).answer) × Holds (start_from s devices cells).table ys
+  start_is : (a ≡ (start_from s devices cells).answer) × Holds (start_from s devices cells).table ys
   unfolding start_from
   start_is = by (allowed devices cells) refl (small devices cells) refl
     where
-      by : (t : Bool) → allowed devices cells ≡ t → (u : Bool) → small devices cells ≡ u → (a ≡ written (start_from s devices cells).answer) × Holds (start_from s devices cells).table ys
+      by : (t : Bool) → allowed devices cells ≡ t → (u : Bool) → small devices cells ≡ u → (a ≡ (start_from s devices cells).answer) × Holds (start_from s devices cells).table ys
       by true e true f = rw (e, f) (started_holds (sizes_of devices cells e) (small_of devices cells f))
       by true e false f = rw (e, f) (refusal_holds s xs a ys H _ (S.large (sizes_of devices cells e) (λ m. false≢true (sym f ∙ of_small devices cells m))))
       by false e u f = rw e (refusal_holds s xs a ys H _ (S.outside (λ z. false≢true (sym e ∙ of_sizes devices cells z))))
@@ -95,17 +88,17 @@ fits_reached t R = subst (Fits sheet) (sym R.is) (reached_fits (started R.device
 no_table_held : (xs : List ℕ) → get_or xs DEVICES 0 ≡ 0 → IsTable xs → ⊥
 no_table_held xs e T = let z = T.valid.sizes.devices_from_1 in omega arith
 
-step_is : (s : Option (Table sheet)) (m : Step sheet) (xs : List ℕ) (a : Answer) (ys : List ℕ) → Holds s xs → Stepped (step sheet m) xs a ys → (a ≡ written (step_from s m).answer) × Holds (step_from s m).table ys
+step_is : (s : Option (Table sheet)) (m : Step sheet) (xs : List ℕ) (a : Answer sheet) (ys : List ℕ) → Holds s xs → Stepped (step sheet m) xs a ys → (a ≡ (step_from s m).answer) × Holds (step_from s m).table ys
 step_is none m xs a ys H S = refusal_holds none xs a ys H NoTable (S.no_table (no_table_held xs H.0))
 step_is (some t) m xs a ys H S =
     let T : IsTable xs = record { valid = H.0; fits = subst (Fits sheet) (sym H.1) (fits_reached t H.2) } in
     let B = S.after T in (
-      written_as a (step sheet m t).answer (S.answer T ∙ ap (λ (u : Table sheet). (step sheet m u).answer) H.1),
+      S.answer T ∙ ap (λ (u : Table sheet). (step sheet m u).answer) H.1,
       (B.valid, B.says ∙ ap (λ (u : Table sheet). (step sheet m u).table) H.1, next_reached m t H.2, omega (arith, B.size, H.3)),
     )
 
 -- whatever was asked
-does_is : (s : Option (Table sheet)) (k : Asked) (xs : List ℕ) (a : Answer) (ys : List ℕ) → Holds s xs → Does k xs a ys → (a ≡ written (reply_to s k).answer) × Holds (reply_to s k).table ys
+does_is : (s : Option (Table sheet)) (k : Asked) (xs : List ℕ) (a : Answer sheet) (ys : List ℕ) → Holds s xs → Does k xs a ys → (a ≡ (reply_to s k).answer) × Holds (reply_to s k).table ys
 does_is s no_step xs a ys H D = refusal_holds s xs a ys H _ D
 does_is s (start devices cells) xs a ys H D = start_is s devices cells xs a ys H D
 does_is s (machine_step m) xs a ys H D = step_is s m xs a ys H D
@@ -116,7 +109,7 @@ devices_held (some t) xs H = unfold reading in (ap (λ (u : Table sheet). u.devi
 
 pub answers_as_the_machine : AnswersAsTheMachine
 unfolding answer_to
-answers_as_the_machine s line xs a ys H A = does_is s (asked (parse_line (devices_of s) line)) xs a ys H (subst (λ (n : ℕ). Does (asked (parse_line n line)) xs a ys) (devices_held s xs H) A)
+answers_as_the_machine s line xs a ys H A = does_is s (asked_by (parse_line (devices_of s) line)) xs a ys H (subst (λ (n : ℕ). Does (asked_by (parse_line n line)) xs a ys) (devices_held s xs H) A)
 
 -- line after line
 pub answers_every_line : AnswersEveryLine

@@ -4,13 +4,11 @@ use Rattle.std.specs.Prelude.{◌≡◌, ◌↔◌, ◌⊎◌, List, [], ◌∷�
 use Rattle.std.proofs.Math.Option.{Option, none, some}
 use Rattle.protocol.specs.declared.Refusal.{Refusal}
 use Rattle.protocol.specs.declared.Refusal.TheVariants.{NoTable, OutsideAllowed, NoStep}
-use Rattle.protocol.specs.Machine.{Table, refused}
+use Rattle.protocol.specs.Machine.{Table, refused, Answer}
 use Rattle.protocol.specs.Machine as machine
 use Rattle.protocol.specs.Fits.{Sizes}
 use Rattle.protocol.specs.History as history
 use Rattle.sheet.specs.Sheet.{sheet, started}
-use Rattle.sheet.specs.Answer.{written}
-use Rattle.sheet.specs.declared.Answer.{Answer}
 use Rattle.words.specs.Layout.{DEVICES}
 use Rattle.table.specs.Table.{need, reading, ValidTable}
 use Rattle.lines.specs.Lines.{ended_in, unended_after}
@@ -37,8 +35,8 @@ Holds (some t) xs = ValidTable xs × (reading xs ≡ t) × Reached t × (need 3 
 
 -- The answer to a line is the machine's, and the words hold its table afterwards.
 abbrev pub AnswersAsTheMachine : Type 0
-AnswersAsTheMachine = (s : Option (Table sheet)) (line xs : List ℕ) (a : Answer) (ys : List ℕ) → Holds s xs → Answered line xs a ys
-    → (a ≡ written (answer_to s line).answer) × Holds (answer_to s line).table ys
+AnswersAsTheMachine = (s : Option (Table sheet)) (line xs : List ℕ) (a : Answer sheet) (ys : List ℕ) → Holds s xs → Answered line xs a ys
+    → (a ≡ (answer_to s line).answer) × Holds (answer_to s line).table ys
 
 -- The words with which the program begins hold no table.
 abbrev pub ZerosHoldNoTable : Type 0
@@ -64,19 +62,19 @@ abbrev pub RefusedExactlyWhen : Type 0
 RefusedExactlyWhen = (s : Option (Table sheet)) (line : List ℕ) → Refusals s line
 
 -- Lines, each answered on the words that the one before it left.
-abbrev pub AllAnswered : List (List ℕ) → (xs : List ℕ) → List Answer → (ys : List ℕ) → Type 0
+abbrev pub AllAnswered : List (List ℕ) → (xs : List ℕ) → List (Answer sheet) → (ys : List ℕ) → Type 0
 AllAnswered [] xs [] ys = xs ≡ ys
 AllAnswered [] xs (a ∷ answers) ys = ⊥
 AllAnswered (line ∷ lines) xs [] ys = ⊥
 AllAnswered (line ∷ lines) xs (a ∷ answers) ys = (zs : List ℕ) × Answered line xs a zs × AllAnswered lines zs answers ys
 
-abbrev pub machine_answers : Option (Table sheet) → List (List ℕ) → List Answer
+abbrev pub machine_answers : Option (Table sheet) → List (List ℕ) → List (Answer sheet)
 machine_answers s [] = []
-machine_answers s (line ∷ lines) = written (answer_to s line).answer ∷ machine_answers (answer_to s line).table lines
+machine_answers s (line ∷ lines) = (answer_to s line).answer ∷ machine_answers (answer_to s line).table lines
 
 -- The answers to any list of lines are the machine's.
 abbrev pub AnswersEveryLine : Type 0
-AnswersEveryLine = (s : Option (Table sheet)) (lines : List (List ℕ)) (xs : List ℕ) (answers : List Answer) (ys : List ℕ) → Holds s xs → AllAnswered lines xs answers ys
+AnswersEveryLine = (s : Option (Table sheet)) (lines : List (List ℕ)) (xs : List ℕ) (answers : List (Answer sheet)) (ys : List ℕ) → Holds s xs → AllAnswered lines xs answers ys
     → (answers ≡ machine_answers s lines) × Holds (table_after s lines) ys
 
 -- Bytes behind an unended line q: the lines that end in them are answered as the machine answers them, and the line that is left is held.
@@ -126,7 +124,7 @@ HoweverItArrives = (buffer xs : List ℕ) (chunks chunks' : List (List ℕ)) (te
 
 -- No second outcome fits, whatever the words and buffers hold.
 abbrev pub OneAnswer : Type 0
-OneAnswer = (line xs : List ℕ) (a b : Answer) (ys zs : List ℕ) → Answered line xs a ys → Answered line xs b zs → (a ≡ b) × (ys ≡ zs)
+OneAnswer = (line xs : List ℕ) (a b : Answer sheet) (ys zs : List ℕ) → Answered line xs a ys → Answered line xs b zs → (a ≡ b) × (ys ≡ zs)
 
 abbrev pub OneChunk : Type 0
 OneChunk = (x : Standing) (input before after after' : List ℕ) (at at' : ℕ) (y z : Standing) → ChunkFed x input before after at y → ChunkFed x input before after' at' z

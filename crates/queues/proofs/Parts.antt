@@ -8,10 +8,9 @@ use native.Mathlib.Omega.{arith}
 use lib.ListN.{length, get_or}
 use Rattle.cells.specs.declared.Cell.TheVariants.{Blank}
 use Rattle.cells.specs.declared.Change.TheVariants.{Nothing}
-use Rattle.protocol.specs.Machine.{answer_of, device_after, Device, Item, fine, Channel, Connection}
+use Rattle.protocol.specs.Machine.{answer_of, device_after, Device, Item, fine, Channel, Connection, done}
 use Rattle.protocol.specs.Machine as machine
 use Rattle.sheet.specs.Sheet.{sheet}
-use Rattle.sheet.specs.declared.Answer.TheVariants.{Done}
 use Rattle.words.specs.Layout.{CELL, CHANGE, QUEUE, ROUND, ITEM, ESTABLISHED, STALE, LAST, TAKEN, CHANNEL, REQUEST, CONNECTION, COVERED, PENDING_LENGTH, WAITING_LENGTH, ITEMS_LENGTH, KNOWN, TRANSACTION, BUFFERED, RECEIVED, PENDING, WAITING, ITEMS, RECORD}
 use Rattle.words.specs.Place.{Place, cell_place, change_place, Filled}
 use Rattle.words.proofs.Places.{Local, Same, cell_local, change_local}
@@ -98,7 +97,7 @@ module _ (devices cells : ℕ) (xs : List ℕ) where
     }
 
 -- A step that is done: its device by its parts.
-pub did_parts : (devices cells : ℕ) (f : Device sheet → machine.Local sheet) (xs ys : List ℕ) (y : Device sheet) → f (device_of devices cells xs) ≡ fine y → Parts devices cells ys y → get_or ys TAKEN 0 ≡ get_or xs TAKEN 0 → ((i : ℕ) → (InUse devices cells ys i → ⊥) → get_or ys i 0 ≡ get_or xs i 0) → Did devices cells f xs Done ys
+pub did_parts : (devices cells : ℕ) (f : Device sheet → machine.Local sheet) (xs ys : List ℕ) (y : Device sheet) → f (device_of devices cells xs) ≡ fine y → Parts devices cells ys y → get_or ys TAKEN 0 ≡ get_or xs TAKEN 0 → ((i : ℕ) → (InUse devices cells ys i → ⊥) → get_or ys i 0 ≡ get_or xs i 0) → Did devices cells f xs done ys
 did_parts devices cells f xs ys y e P t k = record {
   answer = sym (ap (answer_of sheet) e);
   after = parts_say devices cells ys y P ∙ sym (ap (device_after sheet (device_of devices cells xs)) e);

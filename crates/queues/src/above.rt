@@ -16,12 +16,10 @@ fn count_to(r: &[u64], number: u64) -> usize
     ensures { CountedTo r.now number result }
 {
     let n = r[PENDING_LENGTH] as usize;
-    let mut j = 0;
-    while j < n {
+    for j in 0..n {
         if r[PENDING + ROUND * j] > number {
             return j;
         }
-        j += 1;
     }
     n
 }

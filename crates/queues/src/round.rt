@@ -6,8 +6,9 @@ ghost use Rattle.record.specs.Reading.{round_at};
 ghost use Rattle.queues.specs.Parts.{round_entry, PutEntry, Movable, Moved, Requeued};
 ghost use Rattle.queues.specs.Rounds.{round_from, with_round, Addable};
 
+use cells::Change;
 use words::layout::{BUFFERED, LAST, ROUND, ROUND_CHANGES};
-use words::run::copy_changes;
+use words::run::copy;
 
 // Stores a round of a number, with the changes from `from` on.
 fn store_round(r: &mut [u64], at: usize, number: u64, from: usize, cells: usize)
@@ -15,7 +16,7 @@ fn store_round(r: &mut [u64], at: usize, number: u64, from: usize, cells: usize)
     ensures { PutEntry (round_entry cells) r.old r.new at (round_from cells r.old number from) }
 {
     r[at] = number;
-    copy_changes(r, from, at + ROUND_CHANGES, cells);
+    copy::<Change>(r, from, at + ROUND_CHANGES, cells);
 }
 
 // Adds a round of the push buffer, numbered with the last push, to the queue from `at` on, whose length is the word at `count`.
@@ -34,11 +35,9 @@ pub fn move_rounds(r: &mut [u64], from: usize, to: usize, n: usize, cells: usize
     requires { Movable (round_entry cells) r.old to from n × (cells ≤ MOST_CELLS) }
     ensures { Moved (round_entry cells) r.old r.new to n (λ j. round_at cells r.old (from + ROUND * j)) }
 {
-    let mut j = 0;
-    while j < n {
+    for j in 0..n {
         let at = from + ROUND * j;
         let number = r[at];
         store_round(r, to + ROUND * j, number, at + ROUND_CHANGES, cells);
-        j += 1;
     }
 }

@@ -8,10 +8,8 @@ use native.Mathlib.Omega.{arith}
 use lib.ListN.{length, get_or}
 use lib.Seq.{ext_get_or}
 use Rattle.cells.specs.declared.Cell.{Cell}
-use Rattle.protocol.specs.Machine.{Device, Local, answer_of}
+use Rattle.protocol.specs.Machine.{Device, Local, answer_of, Answer}
 use Rattle.sheet.specs.Sheet.{sheet}
-use Rattle.sheet.specs.declared.Answer.{Answer}
-use Rattle.sheet.proofs.OneAnswer.{meaning_one}
 use Rattle.words.specs.Layout.{TAKEN}
 use Rattle.words.specs.Place.{Place, Put, Filled, Numbers, Decides}
 use Rattle.record.specs.Reading.{device_of}
@@ -90,11 +88,11 @@ pub begun_once : (cells : ℕ) (known : ℕ → Cell) (number : ℕ) (xs ys zs :
 begun_once cells known number xs ys zs l A B =
     record_once 0 cells xs ys zs l (A.valid 0) (B.valid 0) (A.taken ∙ sym B.taken) (A.says 0 ∙ sym (B.says 0)) (A.kept 0) (B.kept 0)
 
-pub did_once : (devices cells : ℕ) (f : Device sheet → Local sheet) (xs ys zs : List ℕ) (a b : Answer) → length ys ≡ length zs → Did devices cells f xs a ys → Did devices cells f xs b zs → (a ≡ b) × (ys ≡ zs)
+pub did_once : (devices cells : ℕ) (f : Device sheet → Local sheet) (xs ys zs : List ℕ) (a b : Answer sheet) → length ys ≡ length zs → Did devices cells f xs a ys → Did devices cells f xs b zs → (a ≡ b) × (ys ≡ zs)
 did_once devices cells f xs ys zs a b l A B = (
-  meaning_one a b (A.answer ∙ sym B.answer),
+  (A.answer ∙ sym B.answer),
   record_once devices cells xs ys zs l A.valid B.valid (A.taken ∙ sym B.taken) (A.after ∙ sym B.after) A.kept B.kept,
 )
 
-pub tells_once : (devices cells : ℕ) (f : Device sheet → Local sheet) (xs : List ℕ) (a b : Answer) → Tells devices cells f xs a → Tells devices cells f xs b → a ≡ b
-tells_once devices cells f xs a b A B = meaning_one a b (ap (answer_of sheet) (sym A ∙ B))
+pub tells_once : (devices cells : ℕ) (f : Device sheet → Local sheet) (xs : List ℕ) (a b : Answer sheet) → Tells devices cells f xs a → Tells devices cells f xs b → a ≡ b
+tells_once devices cells f xs a b A B = (ap (answer_of sheet) (sym A ∙ B))

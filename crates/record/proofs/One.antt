@@ -13,7 +13,7 @@ use Rattle.cells.specs.declared.Change.TheVariants.{Nothing}
 use Rattle.cells.specs.Stored.{cell_kind, cell_payload, change_kind, change_payload}
 use Rattle.cells.proofs.StoredForm.{words_cell, words_change}
 use Rattle.words.specs.Layout.{ITEM_NUMBERS, ITEM_PLACES, PREFIX, SEGMENT}
-use Rattle.words.specs.Place.{Place, cell_place, change_place, cell_at, cell_ok, change_at, change_ok, Valid}
+use Rattle.words.specs.Place.{Place, cell_place, change_place, words_at, Valid}
 use Rattle.record.specs.Reading.{below, places_at, sheet_at, changes_at, numbers_at, given_at, given_by, item_of, item_at}
 use Rattle.record.specs.Valid.{InItem, ValidItem}
 
@@ -31,7 +31,7 @@ from_0 : (xs : List ℕ) (o : ℕ) → get_or xs (o + 0) 0 ≡ get_or xs o 0
 from_0 xs o = let e : o + 0 ≡ o = omega arith in ap (λ (i : ℕ). get_or xs i 0) e
 
 pub cell_one : One cell_place
-unfolding cell_at cell_ok
+unfolding words_at
 cell_one = record {
   wide = omega arith;
   words = λ xs ys o u v e. two_words (λ k. get_or xs (o + k) 0 ≡ get_or ys (o + k) 0)
@@ -40,7 +40,7 @@ cell_one = record {
 }
 
 pub change_one : One change_place
-unfolding change_at change_ok
+unfolding words_at
 change_one = record {
   wide = omega arith;
   words = λ xs ys o u v e. two_words (λ k. get_or xs (o + k) 0 ≡ get_or ys (o + k) 0)

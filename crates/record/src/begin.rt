@@ -6,16 +6,17 @@ ghost use Rattle.words.specs.Place.{cell_place, Valid};
 ghost use Rattle.record.specs.Reading.{sheet_at};
 ghost use Rattle.record.specs.Begun.{Begun};
 
+use cells::{Cell, Change};
 use words::layout::{BUFFERED, KNOWN, LAST, RECEIVED, TAKEN, TRANSACTION};
-use words::run::{clear_cells, clear_changes, clear_numbers};
+use words::run::{clear_numbers, fill};
 
 // A record that knows the sheet which stands there.
 pub fn begin_knowing(r: &mut [u64], cells: usize, number: u64)
     requires { (length r.old ≡ RECORD) × (cells ≤ MOST_CELLS) × Valid cell_place r.old KNOWN cells }
     ensures { Begun cells (sheet_at cells r.old KNOWN) number r.old r.new }
 {
-    clear_changes(r, TRANSACTION, cells);
-    clear_changes(r, BUFFERED, cells);
+    fill(r, TRANSACTION, cells, Change::Nothing);
+    fill(r, BUFFERED, cells, Change::Nothing);
     // the single numbers are the words below KNOWN
     clear_numbers(r, LAST, KNOWN);
     r[RECEIVED] = 0;
@@ -28,6 +29,6 @@ pub fn begin(r: &mut [u64], cells: usize, number: u64)
     requires { (length r.old ≡ RECORD) × (cells ≤ MOST_CELLS) }
     ensures { Begun cells (λ c. Blank) number r.old r.new }
 {
-    clear_cells(r, KNOWN, cells);
+    fill(r, KNOWN, cells, Cell::Blank);
     begin_knowing(r, cells, number);
 }

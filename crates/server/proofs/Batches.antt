@@ -30,7 +30,8 @@ use Rattle.table.proofs.Part.{record_same}
 use Rattle.table.proofs.Tables.{device_at, taken_at, record_of}
 use Rattle.server.specs.Batch.{table_batched, Took}
 use Rattle.delivery.specs.Deliver.{ItemReady}
-use Rattle.server.specs.Gather.{TableReady, Gathered}
+use Rattle.table.specs.Known.{TableReady}
+use Rattle.server.specs.Gather.{Gathered}
 use Rattle.link.specs.Settle.{settled, Settled}
 use Rattle.link.specs.Turn.{Turned, Sound}
 use Rattle.server.specs.Turn.{AllSound}

@@ -7,9 +7,8 @@ use native.Mathlib.Omega.{arith}
 use lib.Dec.{ltb}
 use lib.ListN.{length, get_or}
 use Rattle.cells.specs.declared.Cell.TheVariants.{Blank}
-use Rattle.protocol.specs.Machine.{Table, Device, step, at, choose, crash, serverdrop, serverdrop_at, after_crash, fresh_device}
+use Rattle.protocol.specs.Machine.{Table, Device, step, at, choose, crash, serverdrop, serverdrop_at, after_crash, fresh_device, done}
 use Rattle.sheet.specs.Sheet.{sheet}
-use Rattle.sheet.specs.declared.Answer.TheVariants.{Done}
 use Rattle.words.specs.Layout.{DEVICES, CELLS, TAKEN, RECORD, RECORDS}
 use Rattle.record.specs.Reading.{below, device_of}
 use Rattle.record.specs.Valid.{IsRecord}
@@ -18,7 +17,7 @@ use Rattle.table.specs.Promise.{Each, Stepped}
 use Rattle.table.proofs.Each.{each_ahead}
 use Rattle.table.proofs.Tables.{record_of}
 use Rattle.link.specs.Ends.{ended, Ended}
-use Rattle.server.specs.Gather.{TableReady}
+use Rattle.table.specs.Known.{TableReady}
 use Rattle.server.proofs.Turns.{all_turned, server_sheet}
 
 pub serverdrop_at_is : (d : ℕ) (t : Table sheet) → step sheet (serverdrop d) t ≡ at sheet t d (serverdrop_at sheet)
@@ -58,7 +57,7 @@ module _ (xs ys : List ℕ) (T : IsTable xs) (l : length ys ≡ length xs) (E : 
     device = ended_below (get_or xs DEVICES 0) (λ d. device_of (get_or xs DEVICES 0) (get_or xs CELLS 0) (record_at xs d)) i;
   })
 
-  pub crashed : Stepped (step sheet crash) xs Done ys
+  pub crashed : Stepped (step sheet crash) xs done ys
   crashed = record {
     no_table = λ n. absurd (n T);
     answer = λ t. unfold step in refl;

@@ -23,7 +23,8 @@ use Rattle.table.specs.Table.{reading, record_at}
 use Rattle.table.proofs.Tables.{device_at, record_of}
 use Rattle.link.specs.Gather.{rounds_of, RecordReady, GatheredOne}
 use Rattle.link.proofs.Gathers.{join_rounds_append}
-use Rattle.server.specs.Gather.{TableReady, SegmentReady, Gathered}
+use Rattle.table.specs.Known.{TableReady}
+use Rattle.server.specs.Gather.{SegmentReady, Gathered}
 
 -- The rounds of a device are those of its record.
 pub rounds_at_is : (xs counts : List ℕ) (d : ℕ) → d < get_or xs DEVICES 0 → rounds_at sheet (reading xs) counts d ≡ rounds_of (get_or xs CELLS 0) (get_or counts d 0) (record_at xs d)

@@ -9,13 +9,12 @@ use borrow.Author.Tests.{ne_eqb}
 use lib.ListN.{length, get_or}
 use Rattle.protocol.specs.Machine.{Table, choose, moved, moved_by, step, batch, cut, batched, batched_unless0, after_crash}
 use Rattle.sheet.specs.Sheet.{sheet}
-use Rattle.sheet.specs.declared.Answer.TheVariants.{Moved}
 use Rattle.words.specs.Layout.{DEVICES, CELLS}
 use Rattle.table.specs.Table.{reading, IsTable}
 use Rattle.table.specs.Promise.{Became, Each, Stepped}
 use Rattle.server.specs.Batch.{Took}
 use Rattle.link.specs.Ends.{Ended}
-use Rattle.server.specs.Gather.{TableReady}
+use Rattle.table.specs.Known.{TableReady}
 use Rattle.server.proofs.Crashes.{crashed}
 
 -- "at 0 nothing changes"
@@ -30,7 +29,7 @@ stayed : (xs ys : List ℕ) → IsTable xs → ys ≡ xs → Became xs ys (readi
 stayed xs ys T e = subst (λ (zs : List ℕ). Became xs zs (reading xs)) (sym e) record { says = refl; valid = T.valid; kept = λ i n. refl; size = refl }
 
 module _ (xs ys counts : List ℕ) (T : IsTable xs) (k : ℕ) where
-  pub batch_stepped : Took counts (get_or xs DEVICES 0) false xs k ys → Stepped (step sheet (batch counts)) xs (Moved k) ys
+  pub batch_stepped : Took counts (get_or xs DEVICES 0) false xs k ys → Stepped (step sheet (batch counts)) xs (moved k) ys
   batch_stepped W = record {
     no_table = λ n. absurd (n T);
     answer = λ t. unfold step in (ap moved W.many);
@@ -48,7 +47,7 @@ module _ (xs ys counts : List ℕ) (T : IsTable xs) (k : ℕ) where
           some z = let q : 0 ≡ suc m = sym z ∙ e in omega arith
 
   module _ (reach : ℕ) where
-    pub cut_stepped : (k ≡ 0 → ⊥) → Took counts reach true xs k ys → Stepped (step sheet (cut counts reach)) xs (Moved k) ys
+    pub cut_stepped : (k ≡ 0 → ⊥) → Took counts reach true xs k ys → Stepped (step sheet (cut counts reach)) xs (moved k) ys
     cut_stepped n W = record {
       no_table = λ m. absurd (m T);
       answer = λ t. unfold step in (ap moved W.many);
@@ -56,7 +55,7 @@ module _ (xs ys counts : List ℕ) (T : IsTable xs) (k : ℕ) where
     }
 
     -- no round was taken, and every connection ended
-    pub cut_crashed : (mid : List ℕ) → k ≡ 0 → Took counts reach true xs k mid → length ys ≡ length mid → Each (λ d. Ended (get_or xs DEVICES 0) (get_or xs CELLS 0)) mid ys (get_or xs DEVICES 0) → Stepped (step sheet (cut counts reach)) xs (Moved 0) ys
+    pub cut_crashed : (mid : List ℕ) → k ≡ 0 → Took counts reach true xs k mid → length ys ≡ length mid → Each (λ d. Ended (get_or xs DEVICES 0) (get_or xs CELLS 0)) mid ys (get_or xs DEVICES 0) → Stepped (step sheet (cut counts reach)) xs (moved 0) ys
     cut_crashed mid e W l E = record {
       no_table = λ m. absurd (m T);
       answer = λ t. unfold step in (ap moved (sym e ∙ W.many));

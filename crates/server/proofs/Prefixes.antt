@@ -15,7 +15,7 @@ use Rattle.record.proofs.Conditions.{is_singles}
 use Rattle.table.specs.Table.{record_at, reading}
 use Rattle.table.proofs.Tables.{record_of}
 use Rattle.table.proofs.Part.{record_word}
-use Rattle.server.specs.Gather.{TableReady}
+use Rattle.table.specs.Known.{TableReady}
 use Rattle.server.specs.Prefix.{PrefixIs}
 use Rattle.server.proofs.GatherAll.{there, few_devices, few_cells}
 

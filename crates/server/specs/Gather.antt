@@ -3,16 +3,10 @@ use Rattle.std.specs.Prelude.{◌≡◌, List, ℕ, ◌+◌, ◌≤◌, ◌<◌,
 use Rattle.cells.specs.declared.Change.TheVariants.{Nothing}
 use Rattle.protocol.specs.Machine.{join_rounds, last_number, rounds_at, all_rounds}
 use Rattle.sheet.specs.Sheet.{sheet}
-use Rattle.words.specs.Layout.{ITEM, ITEM_KIND, ITEM_NUMBERS, ITEM_PLACES, SEGMENT, DEVICES, CELLS}
+use Rattle.words.specs.Layout.{ITEM, ITEM_KIND, ITEM_NUMBERS, ITEM_PLACES, SEGMENT}
 use Rattle.words.specs.Place.{change_place, Valid}
-use Rattle.table.specs.Table.{reading, IsTable}
+use Rattle.table.specs.Table.{reading}
 use Rattle.record.specs.Reading.{changes_at, given_by}
-
--- A table, with its numbers of devices and of cells.
-pub record TableReady (xs : List ℕ) (devices cells : ℕ) : Type 0 where
-  pub table : IsTable xs
-  pub devices_are : devices ≡ get_or xs DEVICES 0
-  pub cells_are : cells ≡ get_or xs CELLS 0
 
 -- The words of a segment that holds nothing yet.
 pub record SegmentReady (cells : ℕ) (ss : List ℕ) : Type 0 where

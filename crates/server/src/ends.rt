@@ -1,21 +1,20 @@
 // The end of all connections, by a crash.
 ghost use Rattle.table.specs.Promise.{Each};
 ghost use Rattle.link.specs.Ends.{Ended};
-ghost use Rattle.server.specs.Gather.{TableReady};
+ghost use Rattle.table.specs.Known.{TableReady};
 
 use link::ends::end_connection;
+use words::extent::Extent;
 use words::layout::{RECORD, RECORDS};
 
 // Ends every connection and every request.
-pub fn end_all(t: &mut [u64], devices: usize, cells: usize)
-    requires { TableReady t.old devices cells }
-    ensures { Each (λ d. Ended devices cells) t.old t.new devices }
+pub fn end_all(t: &mut [u64], extent: Extent)
+    requires { TableReady t.old extent.devices extent.cells }
+    ensures { Each (λ d. Ended extent.devices extent.cells) t.old t.new extent.devices }
 {
-    let mut d = 0;
-    while d < devices {
+    for d in 0..extent.devices {
         let a = RECORDS + RECORD * d;
         let e = a + RECORD;
-        end_connection(&mut t[a..e], devices, cells, 0);
-        d += 1;
+        end_connection(&mut t[a..e], extent, 0);
     }
 }

@@ -7,6 +7,7 @@ ghost use Rattle.link.specs.Settle.{Settled};
 ghost use Rattle.server.specs.Turn.{AllSound};
 
 use link::settle::settle;
+use words::extent::Extent;
 use words::layout::{RECORD, RECORDS};
 use words::list::word_at;
 
@@ -17,28 +18,16 @@ pub fn settle_all(
     counts: &[u64],
     reach: u64,
     crash: bool,
-    devices: usize,
-    cells: usize,
+    extent: Extent,
 )
-    requires { AllSound t.old devices cells × ItemReady devices cells segment.now × (get_or segment.now ITEM_KIND 0 ≡ SEGMENT) }
-    ensures { Each (λ d. Settled devices cells d (get_or counts.now d 0) (ltb d reach) crash segment.now) t.old t.new devices }
+    requires { AllSound t.old extent.devices extent.cells × ItemReady extent.devices extent.cells segment.now × (get_or segment.now ITEM_KIND 0 ≡ SEGMENT) }
+    ensures { Each (λ d. Settled extent.devices extent.cells d (get_or counts.now d 0) (ltb d reach) crash segment.now) t.old t.new extent.devices }
 {
-    let mut d = 0;
-    while d < devices {
+    for d in 0..extent.devices {
         let a = RECORDS + RECORD * d;
         let e = a + RECORD;
         let count = word_at(counts, d);
         let reaches = (d as u64) < reach;
-        settle(
-            &mut t[a..e],
-            segment,
-            d,
-            count,
-            reaches,
-            crash,
-            devices,
-            cells,
-        );
-        d += 1;
+        settle(&mut t[a..e], segment, d, count, reaches, crash, extent);
     }
 }

@@ -4,11 +4,13 @@
 
 ghost use Rattle.std.specs.Prelude.{◌≡◌, ◌<◌, IfOk, length, take};
 ghost use Rattle.std.specs.Io.KnownBytes.{Consumes, IsAtEnd};
+ghost use Rattle.sheet.specs.Answer.{meaning};
 ghost use Rattle.showing.specs.Done.{is_done};
 ghost use Rattle.std.specs.Io.{ReadsAtMost};
 
 use answers::answer::put_answer;
 use sheet::Answer;
+use sheet::refused::Refused;
 use std::io;
 use std::io::Read;
 
@@ -36,16 +38,18 @@ pub fn write(rt: &impl Print, text: &[u8]) -> io::Result<()> {
 }
 
 // The place of a block's first bad update, where the answer has one.
-fn show_place(rt: &impl Print, a: Answer) -> io::Result<()> {
-    let Answer::RefusedAt(_, place) = a else {
+fn show_place<E: Refused>(rt: &impl Print, a: Result<Answer, E>) -> io::Result<()> {
+    let Err(e) = a else {
         return Ok(());
     };
-    write(rt, b" at ")?;
-    rt.print(place)
+    let (_, Some(place)) = e.told() else {
+        return Ok(());
+    };
+    print!(rt; " at {place}")
 }
 
 // Shows an answer as the step program does.
-pub fn show_answer(rt: &impl Print, a: Answer) -> io::Result<()> {
+pub fn show_answer<E: Refused>(rt: &impl Print, a: Result<Answer, E>) -> io::Result<()> {
     let mut out = [0u8; 32];
     let k = put_answer(&mut out, 0, a);
     write(rt, &out[..k])?;
@@ -53,43 +57,27 @@ pub fn show_answer(rt: &impl Print, a: Answer) -> io::Result<()> {
 }
 
 // Whether a call was done.
-pub fn is_done(a: Answer) -> bool
-    ensures { result ≡ is_done a }
+pub fn is_done<E: Refused>(a: Result<Answer, E>) -> bool
+    ensures { result ≡ is_done (E.meant a) }
 {
-    match a {
-        Answer::Done => true,
-        Answer::Value(_) => false,
-        Answer::Yes => false,
-        Answer::No => false,
-        Answer::Moved(_) => false,
-        Answer::Length(_) => false,
-        Answer::Refused(_) => false,
-        Answer::RefusedAt(_, _) => false,
-    }
+    matches!(a, Ok(Answer::Done))
 }
 
 fn show_word(rt: &impl Print, i: usize, v: u64) -> io::Result<()> {
-    write(rt, b" ")?;
-    rt.print(i)?;
-    write(rt, b"=")?;
-    rt.print(v)
+    print!(rt; " {i}={v}")
 }
 
 // Shows each word of t that is another in old, or that all were kept.
 pub fn show_changes(rt: &impl Print, t: &[u64], old: &[u64]) -> io::Result<()> {
     let mut kept = true;
-    let mut i = 0;
-    while i < t.len() {
-        if i < old.len() {
-            if t[i] != old[i] {
-                show_word(rt, i, t[i])?;
-                kept = false;
-            }
+    for (i, word) in t.iter().enumerate() {
+        if i < old.len() && *word != old[i] {
+            show_word(rt, i, *word)?;
+            kept = false;
         }
-        i += 1;
     }
     if kept {
-        write(rt, b" kept")?;
+        print!(rt; " kept")?;
     }
     Ok(())
 }

@@ -8,53 +8,34 @@ use std::io;
 use std::io::Read;
 use stepping::feed::{ANSWERS, CHUNK, feed_chunk, finish_input};
 
-// Whether the input goes on, and what is held of the line that is not ended.
-#[derive(Clone, Copy)]
-struct Turn {
-    more: bool,
-    unended: Unended,
-}
-
-// Reads once, and writes the answers out before the next read.
+// Reads once, and writes the answers out before the next read: what is held of the line that is not ended, or none at the end of the input.
 fn read_some(
     rt: &(impl Input + Print),
     t: &mut [u64],
     line: &mut [u8; 81],
-    p: Unended,
-) -> io::Result<Turn> {
+    held: Unended,
+) -> io::Result<Option<Unended>> {
     let mut chunk = [0u8; CHUNK];
     let n = rt.reader().read(&mut chunk)?;
     if n == 0 {
-        return Ok(Turn {
-            more: false,
-            unended: p,
-        });
+        return Ok(None);
     }
     let mut out = [0u8; ANSWERS];
-    let run = feed_chunk(t, line, p, &chunk[..n], &mut out);
-    let at = run.at;
-    let unended = run.unended;
-    rt.write_all(&out[..at])?;
-    Ok(Turn {
-        more: true,
-        unended,
-    })
+    let run = feed_chunk(t, line, held, &chunk[..n], &mut out);
+    rt.write_all(&out[..run.at])?;
+    Ok(Some(run.unended))
 }
 
-// Reads to the end of the input. A proved loop has to end, so it counts its reads down, from a number that no run uses up.
+// Reads to the end of the input. A proved loop has to end, so the reads are counted, up to a number that no run reaches.
 fn read_all(rt: &(impl Input + Print), t: &mut [u64], line: &mut [u8; 81]) -> io::Result<Unended> {
-    let p = none();
-    let mut turn = Turn {
-        more: true,
-        unended: p,
-    };
-    let mut turns = u64::MAX;
-    while turns > 0 && turn.more {
-        let held = turn.unended;
-        turn = read_some(rt, t, line, held)?;
-        turns -= 1;
+    let mut held = none();
+    for _ in 0..u64::MAX {
+        let Some(next) = read_some(rt, t, line, held)? else {
+            return Ok(held);
+        };
+        held = next;
     }
-    Ok(turn.unended)
+    Ok(held)
 }
 
 // The answer to a last line that no CR LF ended.

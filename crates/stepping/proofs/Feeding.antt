@@ -4,11 +4,11 @@ use mathlib.Core.List.{List, [], ◌∷◌, ◌++◌, append_assoc, append-nil}
 use Prim.Native.Nat.{ℕ, ◌+◌, ◌*◌, ◌≤◌, ◌<◌}
 use native.Mathlib.Omega.{arith}
 use native.Mathlib.Numerals.{add-one}
-use lib.ListN.{length, get_or, take, length-take}
-use lib.Seq.{take-suc}
+use lib.ListN.{length, get_or, take}
+use lib.Seq.{take_all, take-suc}
 use Rattle.protocol.specs.declared.Refusal.TheVariants.{NoStep}
-use Rattle.sheet.specs.declared.Answer.{Answer}
-use Rattle.text.specs.Text.{Put}
+use Rattle.protocol.specs.Machine.{Answer, refused}
+use Rattle.sheet.specs.Sheet.{sheet}
 use Rattle.text.proofs.PutLaws.{put_none, put_then}
 use Rattle.lines.specs.Held.{fed_of, buffer_after, finish_of}
 use Rattle.lines.specs.declared.Unended.{Unended}
@@ -37,17 +37,17 @@ module _ (fed : Fed) (buffer xs out : List ℕ) (at : ℕ) where
     puts = record { puts = put_none out at; within = omega arith };
   }
 
-  pub told_line : (n : ℕ) (a : Answer) (ys after : List ℕ) (next : ℕ) → fed ≡ Line n → Answered (take n buffer) xs a ys → PutUpTo 34 out at (answer_line a) after next → PutTold fed buffer xs ys out at after next
+  pub told_line : (n : ℕ) (a : Answer sheet) (ys after : List ℕ) (next : ℕ) → fed ≡ Line n → Answered (take n buffer) xs a ys → PutUpTo 34 out at (answer_line a) after next → PutTold fed buffer xs ys out at after next
   told_line n a ys after next e A P = record {
     text = answer_line a;
     told = subst (λ (f : Fed). Told f buffer xs (answer_line a) ys) (sym e) (a, A, refl);
     puts = P;
   }
 
-  pub told_long : (after : List ℕ) (next : ℕ) → fed ≡ Long → PutUpTo 34 out at (answer_line (Answer.Refused NoStep)) after next → PutTold fed buffer xs xs out at after next
+  pub told_long : (after : List ℕ) (next : ℕ) → fed ≡ Long → PutUpTo 34 out at (answer_line (refused NoStep)) after next → PutTold fed buffer xs xs out at after next
   told_long after next e P = record {
-    text = answer_line (Answer.Refused NoStep);
-    told = subst (λ (f : Fed). Told f buffer xs (answer_line (Answer.Refused NoStep)) xs) (sym e) (refl, refl);
+    text = answer_line (refused NoStep);
+    told = subst (λ (f : Fed). Told f buffer xs (answer_line (refused NoStep)) xs) (sym e) (refl, refl);
     puts = P;
   }
 
@@ -95,9 +95,6 @@ pub record Sofar (x : Standing) (input before : List ℕ) (i : ℕ) (after : Lis
   pub puts : PutUpTo (34 * i) before 0 text after at
 
 module _ (x : Standing) (input before : List ℕ) where
-  pub sofar_none : Sofar x input before 0 before 0 x
-  sofar_none = record { text = []; fed = (refl, refl); puts = record { puts = put_none before 0; within = omega arith } }
-
   pub sofar_more : (i : ℕ) (mid : List ℕ) (m : ℕ) (y : Standing) (after : List ℕ) (at : ℕ) (z : Standing) → i < length input
       → Sofar x input before i mid m y → PutByte y (get_or input i 0) z mid m after at → Sofar x input before (i + 1) after at z
   sofar_more i mid m y after at z h S B = record {
@@ -110,15 +107,5 @@ module _ (x : Standing) (input before : List ℕ) where
     };
   }
 
-  pub sofar_all : (i n : ℕ) (after : List ℕ) (at : ℕ) (y : Standing) → take i input ≡ take n input → Sofar x input before i after at y → ChunkFed x (take n input) before after at y
-  sofar_all i n after at y e S = record { text = S.text; fed = subst (λ (l : List ℕ). BytesFed x l S.text y) e S.fed; puts = S.puts.puts }
-
--- the text stands within the output buffer
-text_within : (before text after : List ℕ) (at : ℕ) → Put before 0 text after at → at ≤ length after
-text_within before text after at P = omega (arith, P.behind, ap length P.holds, length-take at after)
-
-pub chunk_within : (x : Standing) (input before after : List ℕ) (at : ℕ) (y : Standing) → ChunkFed x input before after at y → at ≤ length after
-chunk_within x input before after at y C = text_within before C.text after at C.puts
-
-pub end_within : (x : Standing) (before after : List ℕ) (at : ℕ) (ys : List ℕ) → Finished x before after at ys → at ≤ length after
-end_within x before after at ys F = text_within before F.text after at F.puts
+  pub sofar_all : (i : ℕ) (all after : List ℕ) (at : ℕ) (y : Standing) → length input ≤ i → input ≡ all → Sofar x input before i after at y → ChunkFed x all before after at y
+  sofar_all i all after at y h e S = record { text = S.text; fed = subst (λ (l : List ℕ). BytesFed x l S.text y) (take_all i input h ∙ e) S.fed; puts = S.puts.puts }

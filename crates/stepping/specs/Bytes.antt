@@ -1,7 +1,8 @@
 -- What the step program (document 01, "Step program") promises of the bytes that it is fed, whatever its buffers hold. Assumes nothing.
 use Rattle.std.specs.Prelude.{◌≡◌, List, [], ◌∷◌, ◌++◌, ℕ, ◌≤◌, length, take}
 use Rattle.protocol.specs.declared.Refusal.TheVariants.{NoStep}
-use Rattle.sheet.specs.declared.Answer.{Answer}
+use Rattle.protocol.specs.Machine.{Answer, refused}
+use Rattle.sheet.specs.Sheet.{sheet}
 use Rattle.text.specs.Text.{Put}
 use Rattle.lines.specs.Held.{nothing, fed_of, buffer_after, finish_of}
 use Rattle.lines.specs.declared.Unended.{Unended}
@@ -23,8 +24,8 @@ pub record Standing : Type 0 where
 -- the answer to a line of at most 80 bytes, which stands in the buffer; "a longer line" is 13
 abbrev pub Told : Fed → (buffer xs text ys : List ℕ) → Type 0
 Told (More p) buffer xs text ys = (text ≡ []) × (ys ≡ xs)
-Told (Line n) buffer xs text ys = (a : Answer) × Answered (take n buffer) xs a ys × (text ≡ answer_line a)
-Told Long buffer xs text ys = (text ≡ answer_line (Answer.Refused NoStep)) × (ys ≡ xs)
+Told (Line n) buffer xs text ys = (a : Answer sheet) × Answered (take n buffer) xs a ys × (text ≡ answer_line a)
+Told Long buffer xs text ys = (text ≡ answer_line (refused NoStep)) × (ys ≡ xs)
 
 -- the line that is told stands within the buffer
 abbrev pub Within : Fed → (buffer : List ℕ) → Type 0

@@ -1,5 +1,5 @@
 // The answers to the bytes of an input, chunk by chunk.
-ghost use Rattle.std.specs.Prelude.{◌≡◌, ◌+◌, ◌≤◌, min, length, take};
+ghost use Rattle.std.specs.Prelude.{◌≡◌, ◌+◌, ◌≤◌, length, take};
 ghost use Rattle.stepping.specs.Bytes.{CHUNK, standing, held_by, Within, PutTold, PutByte, ChunkFed, Finished};
 
 use answering::line::answer;
@@ -14,7 +14,7 @@ pub const CHUNK: usize = 4096;
 pub const ANSWERS: usize = 34 * CHUNK;
 
 // What is held of the unended line, and how many bytes stand in the output buffer.
-#[derive(Clone, Copy)]
+#[derive(Clone, Copy, Debug, PartialEq, Eq)]
 pub struct Run {
     pub unended: Unended,
     pub at: usize,
@@ -26,8 +26,7 @@ fn held_by(fed: Fed) -> Unended
 {
     match fed {
         Fed::More(p) => p,
-        Fed::Line(_) => none(),
-        Fed::Long => none(),
+        Fed::Line(_) | Fed::Long => none(),
     }
 }
 
@@ -42,7 +41,7 @@ fn put_told(t: &mut [u64], line: &[u8], fed: Fed, out: &mut [u8], at: usize) -> 
             let a = answer(t, &line[..n]);
             put_answer_line(out, at, a)
         }
-        Fed::Long => put_answer_line(out, at, Answer::Refused(Refusal::NoStep)),
+        Fed::Long => put_answer_line(out, at, Err(Refusal::NoStep)),
     }
 }
 
@@ -51,22 +50,13 @@ fn feed_byte(t: &mut [u64], line: &mut [u8], run: Run, b: u8, out: &mut [u8]) ->
     requires { (81 ≤ length line.old) × (run.at + 34 ≤ length out.old) }
     ensures { PutByte (standing line.old run.unended t.old) b (standing line.new result.unended t.new) out.old run.at out.new result.at }
 {
-    let unended = run.unended;
-    let at = run.at;
-    let fed = feed(line, unended, b);
-    let next = put_told(t, line, fed, out, at);
+    let fed = feed(line, run.unended, b);
+    let next = put_told(t, line, fed, out, run.at);
     let held = held_by(fed);
     Run {
         unended: held,
         at: next,
     }
-}
-
-// How many bytes of a chunk are fed.
-fn fed_of(n: usize) -> usize
-    ensures { result ≡ min CHUNK n }
-{
-    if CHUNK < n { CHUNK } else { n }
 }
 
 // Feeds the first 4,096 bytes of a chunk. The line buffer holds the line that was not ended before it; the answers stand at the front of the output buffer.
@@ -79,12 +69,10 @@ pub fn feed_chunk(
 ) -> Run
     ensures { ChunkFed (standing line.old p t.old) (take CHUNK chunk.now) out.old out.new result.at (standing line.new result.unended t.new) }
 {
-    let n = fed_of(chunk.len());
+    let n = chunk.len().min(CHUNK);
     let mut run = Run { unended: p, at: 0 };
-    let mut i = 0;
-    while i < n {
-        run = feed_byte(t, line, run, chunk[i], out);
-        i += 1;
+    for b in &chunk[..n] {
+        run = feed_byte(t, line, run, *b, out);
     }
     run
 }

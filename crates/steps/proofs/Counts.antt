@@ -8,14 +8,13 @@ use borrow.Author.Tests.{eq-eqb, ne_eqb, eqb-true, eqb-false, le-ltb, ltb-true, 
 use lib.Dec.{eqb, ltb}
 use Rattle.text.specs.Field.{field_of}
 use Rattle.text.specs.Text.{decimal_text}
-use Rattle.text.specs.declared.number.Whole.{Whole}
+use Rattle.std.specs.Prelude.{Option, Some, None}
 use Rattle.text.proofs.DecimalTrip.{not_zero}
 use Rattle.wording.specs.Values.{number_at}
 use Rattle.steps.specs.Parse.{count_at, counts_of, counts_fit}
 use Rattle.steps.specs.Grammar.{largest, CountsFit}
 use Rattle.steps.specs.declared.parse.Counts.{Counts}
-use Rattle.steps.specs.declared.parse.MaybeCounts.{MaybeCounts}
-use Rattle.text.proofs.Cases.{whole_of}
+use Rattle.text.proofs.Cases.{some_of}
 use Rattle.steps.proofs.Numbers.{number_sound, number_is}
 
 -- the test of the number of counts
@@ -51,14 +50,14 @@ pub record CountIs (n k v : ℕ) (l : List ℕ) : Type 0 where
   pub unused : n < k → v ≡ 0
   pub field : k ≤ n → field_of k l ≡ decimal_text v
 
-count_sound : (n k : ℕ) (l : List ℕ) (v : ℕ) → count_at n k l ≡ Whole.Is v → CountIs n k v l
+count_sound : (n k : ℕ) (l : List ℕ) (v : ℕ) → count_at n k l ≡ Some v → CountIs n k v l
 unfolding count_at
 count_sound n k l v = by (ltb n k) refl
   where
-    same : {x y : ℕ} → Whole.Is x ≡ Whole.Is y → y ≡ x
+    same : {x y : ℕ} → Some x ≡ Some y → y ≡ x
     same e = cc
 
-    by : (t : Bool) → ltb n k ≡ t → cond t (Whole.Is 0) (number_at k l) ≡ Whole.Is v → CountIs n k v l
+    by : (t : Bool) → ltb n k ≡ t → cond t (Some 0) (number_at k l) ≡ Some v → CountIs n k v l
     by true q e =
         let h : n < k = ltb-true n k q in
         let z : v ≡ 0 = same e in
@@ -68,12 +67,12 @@ count_sound n k l v = by (ltb n k) refl
         let s = number_sound k l v e in
         record { small = s.1; unused = λ g. absurd (omega arith); field = λ _. s.0 }
 
-count_is : (n k : ℕ) (l : List ℕ) (v : ℕ) → CountIs n k v l → count_at n k l ≡ Whole.Is v
+count_is : (n k : ℕ) (l : List ℕ) (v : ℕ) → CountIs n k v l → count_at n k l ≡ Some v
 unfolding count_at
 count_is n k l v i = by (ltb n k) refl
   where
-    by : (t : Bool) → ltb n k ≡ t → cond t (Whole.Is 0) (number_at k l) ≡ Whole.Is v
-    by true q = ap Whole.Is (sym (i.unused (ltb-true n k q)))
+    by : (t : Bool) → ltb n k ≡ t → cond t (Some 0) (number_at k l) ≡ Some v
+    by true q = ap Some (sym (i.unused (ltb-true n k q)))
     by false q = number_is k l (i.field (ltb-false n k q)) i.small
 
 -- all counts
@@ -82,7 +81,7 @@ pub counts_is :
     → CountIs c.number 1 c.first l
     → CountIs c.number 2 c.second l
     → CountIs c.number 3 c.third l
-    → counts_of c.number l ≡ MaybeCounts.Is c
+    → counts_of c.number l ≡ Some c
 unfolding counts_of
 counts_is l c x y z =
     rw (count_is c.number 1 l c.first x, count_is c.number 2 l c.second y, count_is c.number 3 l c.third z)
@@ -94,12 +93,12 @@ pub record CountsRead (n : ℕ) (l : List ℕ) (c : Counts) : Type 0 where
   pub second : CountIs n 2 c.second l
   pub third : CountIs n 3 c.third l
 
-pub counts_sound : (n : ℕ) (l : List ℕ) (c : Counts) → counts_of n l ≡ MaybeCounts.Is c → CountsRead n l c
+pub counts_sound : (n : ℕ) (l : List ℕ) (c : Counts) → counts_of n l ≡ Some c → CountsRead n l c
 unfolding counts_of
 counts_sound n l c =
-    whole_of P (count_at n 1 l) none λ x p.
-    whole_of P (count_at n 2 l) none λ y q.
-    whole_of P (count_at n 3 l) none λ z r.
+    some_of P (count_at n 1 l) none λ x p.
+    some_of P (count_at n 2 l) none λ y q.
+    some_of P (count_at n 3 l) none λ z r.
     λ e. subst (CountsRead n l) (same e) (record {
       number = refl;
       first = count_sound n 1 l x p;
@@ -107,11 +106,11 @@ counts_sound n l c =
       third = count_sound n 3 l z r;
     })
   where
-    P : MaybeCounts → Type 0
-    P m = m ≡ MaybeCounts.Is c → CountsRead n l c
+    P : Option Counts → Type 0
+    P m = m ≡ Some c → CountsRead n l c
 
-    none : P MaybeCounts.Not
+    none : P None
     none e = let z : ◌≡◌ {A = ℕ} 0 1 = cc in absurd (omega arith)
 
-    same : {x y : Counts} → MaybeCounts.Is x ≡ MaybeCounts.Is y → x ≡ y
+    same : {x y : Counts} → Some x ≡ Some y → x ≡ y
     same e = cc

@@ -3,7 +3,7 @@ use Rattle.steps.specs.Claims.{LineOfStep, OneStep, NoStep, LongerLine, EmptyLin
 use Rattle.steps.proofs.Exactly as exactly
 
 pub line_of_step : LineOfStep
-line_of_step d s l n = (exactly.step_is d s l n, exactly.is_step d s l)
+line_of_step d s l = (exactly.step_is d s l, exactly.is_step d s l)
 
 pub one_step : OneStep
 one_step = exactly.one_step

@@ -52,20 +52,11 @@ LineIs n (Step.Update device cell update) l =
     × (device ≤ largest)
     × (cell ≤ largest)
     × (l ≡ record_of update_text (decimal_text device ∷ decimal_text cell ∷ fields))
-LineIs n (Step.Push device) l = DeviceLine Act.Push device l
-LineIs n (Step.Send device) l = DeviceLine Act.Send device l
-LineIs n (Step.Confirmed device) l = DeviceLine Act.Confirmed device l
-LineIs n (Step.Ask device) l = DeviceLine Act.Ask device l
-LineIs n (Step.Drop device) l = DeviceLine Act.Drop device l
-LineIs n (Step.Receive device) l = DeviceLine Act.Receive device l
-LineIs n (Step.Pull device) l = DeviceLine Act.Pull device l
-LineIs n (Step.Accept device) l = DeviceLine Act.Accept device l
-LineIs n (Step.Serverdrop device) l = DeviceLine Act.Serverdrop device l
+LineIs n (Step.Device act device) l = DeviceLine act device l
 LineIs n Step.Crash l = l ≡ record_of crash_text []
 LineIs n (Step.Batch counts) l = (fields : List (List ℕ)) × CountsAre n counts fields × (l ≡ record_of batch_text fields)
 LineIs n (Step.Cut counts j) l =
     (fields : List (List ℕ)) × CountsAre n counts fields × (j ≤ largest) × (l ≡ record_of cut_text (fields ++ (decimal_text j ∷ [])))
-LineIs n Step.NoStep l = ⊥
 
 -- The line l is the step s, where n is the number of devices since the last start and 0 before one: "at most 80 bytes".
 abbrev pub LineOf : ℕ → Step → List ℕ → Type 0

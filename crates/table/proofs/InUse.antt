@@ -6,10 +6,9 @@ use Prim.Native.Nat.{ℕ, ◌+◌, ◌*◌, ◌≤◌, ◌<◌}
 use native.Mathlib.Omega.{arith}
 use lib.ListN.{length, get_or, get_or-eq_default}
 use Rattle.cells.specs.declared.Cell.TheVariants.{Blank}
-use Rattle.protocol.specs.Machine.{Table}
+use Rattle.protocol.specs.Machine.{Table, Answer}
 use Rattle.sheet.specs.Sheet.{sheet}
-use Rattle.sheet.specs.declared.Answer.{Answer}
-use Rattle.sheet.proofs.OneAnswer.{meaning_one, same_answer}
+use Rattle.sheet.proofs.OneAnswer.{same_answer}
 use Rattle.words.specs.Layout.{TAKEN, RECORD, DEVICES, CELLS, SHEET, RECORDS}
 use Rattle.words.specs.Place.{cell_place}
 use Rattle.words.proofs.Places.{lt_or_ge, cell_local}
@@ -92,8 +91,8 @@ only_words_in_use s xs ys A = record {
   after = λ xs' ys' a b S R T. (R.after (also_table xs ys A T)).says ∙ ap (λ (t : Table sheet). (s t).table) (says_same xs ys A T.valid) ∙ sym (S.after T).says;
 }
   where
-    on_table : (a b : Answer) (xs' ys' : List ℕ) → Stepped s xs a xs' → Stepped s ys b ys' → IsTable xs → a ≡ b
-    on_table a b xs' ys' S R T = meaning_one a b (S.answer T ∙ ap (λ (t : Table sheet). (s t).answer) (sym (says_same xs ys A T.valid)) ∙ sym (R.answer (also_table xs ys A T)))
+    on_table : (a b : Answer sheet) (xs' ys' : List ℕ) → Stepped s xs a xs' → Stepped s ys b ys' → IsTable xs → a ≡ b
+    on_table a b xs' ys' S R T = (S.answer T ∙ ap (λ (t : Table sheet). (s t).answer) (sym (says_same xs ys A T.valid)) ∙ sym (R.answer (also_table xs ys A T)))
 
-    no_table : (a b : Answer) (xs' ys' : List ℕ) → Stepped s xs a xs' → Stepped s ys b ys' → (IsTable xs → ⊥) → a ≡ b
-    no_table a b xs' ys' S R n = meaning_one a b ((S.no_table n).number ∙ sym (R.no_table (λ T. n (also_table ys xs (agree_back xs ys A) T))).number)
+    no_table : (a b : Answer sheet) (xs' ys' : List ℕ) → Stepped s xs a xs' → Stepped s ys b ys' → (IsTable xs → ⊥) → a ≡ b
+    no_table a b xs' ys' S R n = ((S.no_table n).number ∙ sym (R.no_table (λ T. n (also_table ys xs (agree_back xs ys A) T))).number)

@@ -2,6 +2,7 @@ pub mod Part
 pub mod Records
 pub mod Tables
 pub mod Lifted
+pub mod Here
 pub mod Each
 pub mod Starts
 pub mod Once

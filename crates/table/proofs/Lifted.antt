@@ -6,27 +6,26 @@ use Prim.Native.Nat.{ℕ, ◌≤◌, ◌<◌}
 use lib.Dec.{ltb}
 use lib.ListN.{get_or}
 use borrow.Author.Tests.{lt-ltb, le-ltb}
+use Rattle.protocol.specs.declared.Refusal.{Refusal}
 use Rattle.protocol.specs.declared.Refusal.TheVariants.{NoTable, NoDevice}
-use Rattle.protocol.specs.Machine.{answer_of, device_after, Table, Result, Device, Local, Step, fine, tell, put, settle, at, step}
+use Rattle.protocol.specs.Machine.{answer_of, device_after, Table, Result, Device, Local, Step, fine, tell, put, settle, at, step, Answer, refused}
 use Rattle.sheet.specs.Sheet.{sheet}
-use Rattle.sheet.specs.Answer.{meaning}
-use Rattle.sheet.specs.declared.Answer.{Answer}
-use Rattle.sheet.specs.declared.Answer.TheVariants.{Refused}
 use Rattle.words.specs.Layout.{TAKEN, DEVICES, CELLS}
 use Rattle.record.specs.Reading.{device_of}
 use Rattle.record.specs.Did.{Did}
 use Rattle.table.specs.Table.{record_at, reading, IsTable}
+use Rattle.table.specs.Known.{NotKnown}
 use Rattle.table.specs.Promise.{Stepped}
 use Rattle.table.proofs.Part.{Replaced}
 use Rattle.table.proofs.Records.{replaced_says, replaced_valid, replaced_kept, put_same}
 use Rattle.table.proofs.Tables.{device_at, taken_at}
 
 -- Contents that are no table.
-pub no_table : (s : Table sheet → Result sheet) (xs : List ℕ) → (IsTable xs → ⊥) → Stepped s xs (Refused NoTable) xs
+pub no_table : (s : Table sheet → Result sheet) (xs : List ℕ) → (IsTable xs → ⊥) → Stepped s xs (refused NoTable) xs
 no_table s xs n = record { no_table = λ m. record { number = refl; untouched = refl }; answer = λ T. absurd (n T); after = λ T. absurd (n T) }
 
 -- A step that leaves the table as it is.
-pub unmoved : (s : Table sheet → Result sheet) (xs : List ℕ) (a : Answer) → IsTable xs → s (reading xs) ≡ record { answer = meaning a; table = reading xs } → Stepped s xs a xs
+pub unmoved : (s : Table sheet → Result sheet) (xs : List ℕ) (a : Answer sheet) → IsTable xs → s (reading xs) ≡ record { answer = a; table = reading xs } → Stepped s xs a xs
 unmoved s xs a T e = record {
   no_table = λ n. absurd (n T);
   answer = λ t. ap (λ (r : Result sheet). r.answer) (sym e);
@@ -34,11 +33,16 @@ unmoved s xs a T e = record {
 }
 
 -- A step of device d, where there is none: s is what `at` makes of f.
-pub no_device : (s : Step sheet) (f : Device sheet → Local sheet) (xs : List ℕ) (d : ℕ) → step sheet s (reading xs) ≡ at sheet (reading xs) d f → IsTable xs → get_or xs DEVICES 0 ≤ d → Stepped (step sheet s) xs (Refused NoDevice) xs
-no_device s f xs d e T h = unmoved (step sheet s) xs (Refused NoDevice) T (e ∙ ap (λ (b : Bool). settle sheet (reading xs) d b (f ((reading xs).device d))) (devices_past ∙ le-ltb d (get_or xs DEVICES 0) h))
+pub no_device : (s : Step sheet) (f : Device sheet → Local sheet) (xs : List ℕ) (d : ℕ) → step sheet s (reading xs) ≡ at sheet (reading xs) d f → IsTable xs → get_or xs DEVICES 0 ≤ d → Stepped (step sheet s) xs (refused NoDevice) xs
+no_device s f xs d e T h = unmoved (step sheet s) xs (refused NoDevice) T (e ∙ ap (λ (b : Bool). settle sheet (reading xs) d b (f ((reading xs).device d))) (devices_past ∙ le-ltb d (get_or xs DEVICES 0) h))
   where
     devices_past : ltb d (reading xs).devices ≡ ltb d (get_or xs DEVICES 0)
     devices_past = unfold reading in refl
+
+-- Words that a step of device d is refused at: "1 first, then 3".
+pub not_known : (s : Step sheet) (f : Device sheet → Local sheet) (xs : List ℕ) (d : ℕ) → (IsTable xs → step sheet s (reading xs) ≡ at sheet (reading xs) d f) → (e : Refusal) → NotKnown xs d e → Stepped (step sheet s) xs (refused e) xs
+not_known s f xs d q e (NotKnown.no_table p n) = rw p (no_table (step sheet s) xs n)
+not_known s f xs d q e (NotKnown.no_device p T h) = rw p (no_device s f xs d (q T) T h)
 
 -- What settling does with a device that is there.
 settle_answer : (t : Table sheet) (d : ℕ) (l : Local sheet) → (settle sheet t d true l).answer ≡ answer_of sheet l
@@ -64,10 +68,10 @@ module _ (s : Step sheet) (f : Device sheet → Local sheet) (xs : List ℕ) (d 
       there = unfold reading in (lt-ltb d (get_or xs DEVICES 0) h)
 
   -- a question: the step only tells
-  pub told : (a : Answer) → f here ≡ tell (meaning a) → Stepped (step sheet s) xs a xs
+  pub told : (a : Answer sheet) → f here ≡ tell a → Stepped (step sheet s) xs a xs
   told a q = unmoved (step sheet s) xs a T (step_is ∙ ap (settle sheet (reading xs) d true) q)
 
-  module _ (ys rs : List ℕ) (a : Answer) (R : Replaced xs ys d rs) (S : Did (get_or xs DEVICES 0) (get_or xs CELLS 0) f (record_at xs d) a rs) where
+  module _ (ys rs : List ℕ) (a : Answer sheet) (R : Replaced xs ys d rs) (S : Did (get_or xs DEVICES 0) (get_or xs CELLS 0) f (record_at xs d) a rs) where
     taken_is : get_or rs TAKEN 0 ≡ (reading xs).taken d
     taken_is = S.taken ∙ sym (taken_at xs d h)
 
@@ -104,5 +108,5 @@ module _ (s : Step sheet) (f : Device sheet → Local sheet) (xs : List ℕ) (d 
       };
     }
       where
-        answer_is : meaning a ≡ (settle sheet (reading xs) d true (f here)).answer
+        answer_is : a ≡ (settle sheet (reading xs) d true (f here)).answer
         answer_is = S.answer ∙ sym (settle_answer (reading xs) d (f here))

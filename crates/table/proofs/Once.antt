@@ -9,11 +9,10 @@ use lib.ListN.{length, get_or}
 use Rattle.cells.specs.declared.Cell.TheVariants.{Blank}
 use Rattle.protocol.specs.declared.Refusal.{Refusal}
 use Rattle.protocol.specs.declared.Refusal.TheVariants.{NoTable, OutsideAllowed, NoStep}
-use Rattle.protocol.specs.Machine.{Table, step}
+use Rattle.protocol.specs.Machine.{Table, step, Answer}
 use Rattle.protocol.specs.Fits.{Sizes}
 use Rattle.sheet.specs.Sheet.{sheet}
-use Rattle.sheet.specs.declared.Answer.{Answer}
-use Rattle.sheet.proofs.OneAnswer.{meaning_one, same_answer}
+use Rattle.sheet.proofs.OneAnswer.{same_answer}
 use Rattle.words.specs.Layout.{TAKEN, RECORD, DEVICES, CELLS, SHEET}
 use Rattle.words.specs.Place.{cell_place}
 use Rattle.words.proofs.Places.{lt_or_ge}
@@ -83,11 +82,11 @@ pub became_same : (xs ys : List ℕ) (t : Table sheet) → IsTable xs → Became
 became_same xs ys t T B e = became_once xs ys xs t B record { says = sym e; valid = T.valid; kept = λ _ _. refl; size = refl }
 
 -- Two refusals of the same number.
-pub refused_once : (r : Refusal) (xs ys zs : List ℕ) (a b : Answer) → RefusedWith r xs a ys → RefusedWith r xs b zs → (a ≡ b) × (ys ≡ zs)
-refused_once r xs ys zs a b A B = (meaning_one a b (A.number ∙ sym B.number), A.untouched ∙ sym B.untouched)
+pub refused_once : (r : Refusal) (xs ys zs : List ℕ) (a b : Answer sheet) → RefusedWith r xs a ys → RefusedWith r xs b zs → (a ≡ b) × (ys ≡ zs)
+refused_once r xs ys zs a b A B = (A.number ∙ sym B.number, A.untouched ∙ sym B.untouched)
 
 -- What holds in either case holds, where it is an equation of answers and of words.
-pub either_way : (P : Type 0) (a b : Answer) (ys zs : List ℕ) → (P → (a ≡ b) × (ys ≡ zs)) → ((P → ⊥) → (a ≡ b) × (ys ≡ zs)) → (a ≡ b) × (ys ≡ zs)
+pub either_way : (P : Type 0) (a b : Answer sheet) (ys zs : List ℕ) → (P → (a ≡ b) × (ys ≡ zs)) → ((P → ⊥) → (a ≡ b) × (ys ≡ zs)) → (a ≡ b) × (ys ≡ zs)
 either_way P a b ys zs f g = (
   stable (same_answer a b) (λ n. n (g (λ p. n (f p).0)).0),
   stable (List-discrete ℕ_discrete ys zs) (λ n. n (g (λ p. n (f p).1)).1),
@@ -95,16 +94,16 @@ either_way P a b ys zs f g = (
 
 pub one_outcome : OneOutcome
 one_outcome s xs ys zs a b A B = either_way (IsTable xs) a b ys zs
-    (λ T. (meaning_one a b (A.answer T ∙ sym (B.answer T)), became_once xs ys zs _ (A.after T) (B.after T)))
+    (λ T. (A.answer T ∙ sym (B.answer T), became_once xs ys zs _ (A.after T) (B.after T)))
     (λ n. refused_once NoTable xs ys zs a b (A.no_table n) (B.no_table n))
 
 pub one_start : OneStart
 one_start devices cells xs ys zs a b A B = either_way (Sizes devices cells) a b ys zs
-    (λ z. ⊎_elim (λ l. refused_once NoTable xs ys zs a b (A.short z l) (B.short z l)) (λ g. (meaning_one a b ((A.begun z g).0 ∙ sym (B.begun z g).0), became_once xs ys zs _ (A.begun z g).1 (B.begun z g).1)) (lt_or_ge (length xs) (need devices)))
+    (λ z. ⊎_elim (λ l. refused_once NoTable xs ys zs a b (A.short z l) (B.short z l)) (λ g. ((A.begun z g).0 ∙ sym (B.begun z g).0, became_once xs ys zs _ (A.begun z g).1 (B.begun z g).1)) (lt_or_ge (length xs) (need devices)))
     (λ n. refused_once OutsideAllowed xs ys zs a b (A.outside n) (B.outside n))
 
 -- What was asked has one outcome, where a start has one.
-pub does_once : (Begins : (devices cells : ℕ) (xs : List ℕ) → Answer → (ys : List ℕ) → Type 0) → (xs ys zs : List ℕ) (a b : Answer) → ((devices cells : ℕ) → Begins devices cells xs a ys → Begins devices cells xs b zs → (a ≡ b) × (ys ≡ zs)) → (k : Asked) → DoesWith Begins k xs a ys → DoesWith Begins k xs b zs → (a ≡ b) × (ys ≡ zs)
+pub does_once : (Begins : (devices cells : ℕ) (xs : List ℕ) → Answer sheet → (ys : List ℕ) → Type 0) → (xs ys zs : List ℕ) (a b : Answer sheet) → ((devices cells : ℕ) → Begins devices cells xs a ys → Begins devices cells xs b zs → (a ≡ b) × (ys ≡ zs)) → (k : Asked) → DoesWith Begins k xs a ys → DoesWith Begins k xs b zs → (a ≡ b) × (ys ≡ zs)
 does_once Begins xs ys zs a b one no_step A B = refused_once NoStep xs ys zs a b A B
 does_once Begins xs ys zs a b one (start devices cells) A B = one devices cells A B
 does_once Begins xs ys zs a b one (machine_step m) A B = one_outcome (step sheet m) xs ys zs a b A B

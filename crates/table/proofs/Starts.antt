@@ -8,10 +8,9 @@ use lib.Dec.{ltb}
 use lib.ListN.{length, get_or, set, length-set}
 use borrow.Author.Tests.{lt-ltb, le-ltb}
 use Rattle.cells.specs.declared.Cell.TheVariants.{Blank}
-use Rattle.protocol.specs.Machine.{Start, Device, choose, fresh, fresh_device}
+use Rattle.protocol.specs.Machine.{Start, Device, choose, fresh, fresh_device, done, refused}
 use Rattle.protocol.specs.Fits.{Sizes}
 use Rattle.sheet.specs.Sheet.{sheet, started}
-use Rattle.sheet.specs.declared.Answer.TheVariants.{Done, Refused}
 use Rattle.protocol.specs.declared.Refusal.TheVariants.{NoTable, OutsideAllowed}
 use Rattle.words.specs.Layout.{RECORD, DEVICES, CELLS, SHEET, RECORDS}
 use Rattle.words.specs.Place.{cell_place, Filled}
@@ -97,11 +96,11 @@ module _ (b : Start sheet) (xs y1 y2 : List ℕ) (blank-past : (c : ℕ) → b.c
       did = record { says = says_is; valid = valid_is; kept = kept_is; size = length_is }
 
 -- The three ways in which `start` ends.
-pub start_outside : (devices cells : ℕ) (xs : List ℕ) → (Sizes devices cells → ⊥) → Started devices cells xs (Refused OutsideAllowed) xs
+pub start_outside : (devices cells : ℕ) (xs : List ℕ) → (Sizes devices cells → ⊥) → Started devices cells xs (refused OutsideAllowed) xs
 start_outside devices cells xs n = record { outside = λ m. record { number = refl; untouched = refl }; short = λ z. absurd (n z); begun = λ z. absurd (n z) }
 
-pub start_short : (devices cells : ℕ) (xs : List ℕ) → Sizes devices cells → length xs < need devices → Started devices cells xs (Refused NoTable) xs
+pub start_short : (devices cells : ℕ) (xs : List ℕ) → Sizes devices cells → length xs < need devices → Started devices cells xs (refused NoTable) xs
 start_short devices cells xs z h = record { outside = λ n. absurd (n z); short = λ y l. record { number = refl; untouched = refl }; begun = λ y l. absurd (omega arith) }
 
-pub start_done : (devices cells : ℕ) (xs ys : List ℕ) → Sizes devices cells → need devices ≤ length xs → Became xs ys (fresh sheet (started devices cells)) → Started devices cells xs Done ys
+pub start_done : (devices cells : ℕ) (xs ys : List ℕ) → Sizes devices cells → need devices ≤ length xs → Became xs ys (fresh sheet (started devices cells)) → Started devices cells xs done ys
 start_done devices cells xs ys z h B = record { outside = λ n. absurd (n z); short = λ y l. absurd (omega arith); begun = λ y l. (refl, B) }

@@ -6,11 +6,9 @@ use Prim.Native.Nat.{ℕ, zero, suc, ◌≤◌, ◌<◌}
 use native.Mathlib.Omega.{arith}
 use lib.ListN.{get_or, replicate}
 use Rattle.protocol.specs.Fits.{Sizes}
-use Rattle.protocol.specs.Machine.{Table, done, fresh}
+use Rattle.protocol.specs.Machine.{Table, done, fresh, Answer}
 use Rattle.sheet.specs.Sheet.{sheet, started}
-use Rattle.sheet.specs.Answer.{meaning}
-use Rattle.sheet.specs.declared.Answer.{Answer}
-use Rattle.sheet.proofs.OneAnswer.{meaning_one, done_refused}
+use Rattle.sheet.proofs.OneAnswer.{done_refused}
 use Rattle.words.specs.Layout.{DEVICES, CELLS}
 use Rattle.words.proofs.Places.{lt_or_ge}
 use Rattle.record.proofs.Same.{in_record}
@@ -37,9 +35,9 @@ none_past_the_need xs X i h (InTable.in_record d k l u q) =
     omega arith
 
 -- What makes a table in a slice with room takes nothing from it.
-pub made_alike : (t : Table sheet) (xs ys xs' ys' : List ℕ) (a b : Answer) → meaning a ≡ done → meaning b ≡ done → Became xs xs' t → Became ys ys' t → MadeAlike xs xs' ys' a b
+pub made_alike : (t : Table sheet) (xs ys xs' ys' : List ℕ) (a b : Answer sheet) → a ≡ done → b ≡ done → Became xs xs' t → Became ys ys' t → MadeAlike xs xs' ys' a b
 made_alike t xs ys xs' ys' a b p q X Y = record {
-  answers = meaning_one a b (p ∙ sym q);
+  answers = (p ∙ sym q);
   words = λ _ i u. sym (table_words xs' ys' X.valid Y.valid (X.says ∙ sym Y.says) i u);
   kept = X.kept;
 }
@@ -59,7 +57,7 @@ pub start_reads_no_word : StartReadsNoWord
 start_reads_no_word devices cells xs ys xs' ys' a b h k A B = ⊎_elim
     (λ z. made_alike (fresh sheet (started devices cells)) xs ys xs' ys' a b (A.begun z h).0 (B.begun z k).0 (A.begun z h).1 (B.begun z k).1)
     (λ n. record {
-      answers = meaning_one a b ((A.outside n).number ∙ sym (B.outside n).number);
+      answers = ((A.outside n).number ∙ sym (B.outside n).number);
       words = λ e. absurd (done_refused _ _ e (A.outside n).number);
       kept = λ i _. ap (λ (l : List ℕ). get_or l i 0) (A.outside n).untouched;
     })

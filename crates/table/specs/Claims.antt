@@ -1,10 +1,8 @@
 -- What document 01 says of every table, its need and its words, and of every call: that "no second outcome fits", and that it depends on no word but
 -- those in use. Assumes nothing.
 use Rattle.std.specs.Prelude.{◌≡◌, List, ℕ, ◌*◌, ◌≤◌, length, get_or, replicate}
-use Rattle.protocol.specs.Machine.{Table, Result, done}
+use Rattle.protocol.specs.Machine.{Table, Result, done, Answer}
 use Rattle.sheet.specs.Sheet.{sheet}
-use Rattle.sheet.specs.Answer.{meaning}
-use Rattle.sheet.specs.declared.Answer.{Answer}
 use Rattle.words.specs.Layout.{DEVICES}
 use Rattle.table.specs.Table.{need, reading, InTable, ValidTable, IsTable}
 use Rattle.table.specs.Promise.{Stepped, Started}
@@ -23,10 +21,10 @@ NonePastTheNeed = (xs : List ℕ) → ValidTable xs → (i : ℕ) → need (get_
 
 -- Two outcomes of one call on the same words are the same, answer and every word, on a table or not.
 abbrev pub OneOutcome : Type 0
-OneOutcome = (s : Table sheet → Result sheet) (xs ys zs : List ℕ) (a b : Answer) → Stepped s xs a ys → Stepped s xs b zs → (a ≡ b) × (ys ≡ zs)
+OneOutcome = (s : Table sheet → Result sheet) (xs ys zs : List ℕ) (a b : Answer sheet) → Stepped s xs a ys → Stepped s xs b zs → (a ≡ b) × (ys ≡ zs)
 
 abbrev pub OneStart : Type 0
-OneStart = (devices cells : ℕ) (xs ys zs : List ℕ) (a b : Answer) → Started devices cells xs a ys → Started devices cells xs b zs → (a ≡ b) × (ys ≡ zs)
+OneStart = (devices cells : ℕ) (xs ys zs : List ℕ) (a b : Answer sheet) → Started devices cells xs a ys → Started devices cells xs b zs → (a ≡ b) × (ys ≡ zs)
 
 -- Both slices have the need, and agree on the words in use of the first.
 pub record Agree (xs ys : List ℕ) : Type 0 where
@@ -39,19 +37,19 @@ pub record Alike (s : Table sheet → Result sheet) (xs ys : List ℕ) : Type 0 
   pub tables : IsTable xs → IsTable ys
   pub back : IsTable ys → IsTable xs
   pub says : IsTable xs → reading ys ≡ reading xs
-  pub answers : (xs' ys' : List ℕ) (a b : Answer) → Stepped s xs a xs' → Stepped s ys b ys' → a ≡ b
-  pub after : (xs' ys' : List ℕ) (a b : Answer) → Stepped s xs a xs' → Stepped s ys b ys' → IsTable xs → reading ys' ≡ reading xs'
+  pub answers : (xs' ys' : List ℕ) (a b : Answer sheet) → Stepped s xs a xs' → Stepped s ys b ys' → a ≡ b
+  pub after : (xs' ys' : List ℕ) (a b : Answer sheet) → Stepped s xs a xs' → Stepped s ys b ys' → IsTable xs → reading ys' ≡ reading xs'
 
 abbrev pub OnlyWordsInUse : Type 0
 OnlyWordsInUse = (s : Table sheet → Result sheet) (xs ys : List ℕ) → Agree xs ys → Alike s xs ys
 
 -- A table made in the words xs, and in others with as much room: the answers are the same, and so is each word in use; every other word is kept.
-pub record MadeAlike (xs xs' ys' : List ℕ) (a b : Answer) : Type 0 where
+pub record MadeAlike (xs xs' ys' : List ℕ) (a b : Answer sheet) : Type 0 where
   pub answers : a ≡ b
-  pub words : meaning a ≡ done → (i : ℕ) → InTable xs' i → get_or ys' i 0 ≡ get_or xs' i 0
+  pub words : a ≡ done → (i : ℕ) → InTable xs' i → get_or ys' i 0 ≡ get_or xs' i 0
   pub kept : (i : ℕ) → (InTable xs' i → ⊥) → get_or xs' i 0 ≡ get_or xs i 0
 
 -- start reads no word of the slice, and leaves alone those that its table does not use.
 abbrev pub StartReadsNoWord : Type 0
-StartReadsNoWord = (devices cells : ℕ) (xs ys xs' ys' : List ℕ) (a b : Answer) → need devices ≤ length xs → need devices ≤ length ys
+StartReadsNoWord = (devices cells : ℕ) (xs ys xs' ys' : List ℕ) (a b : Answer sheet) → need devices ≤ length xs → need devices ≤ length ys
     → Started devices cells xs a xs' → Started devices cells ys b ys' → MadeAlike xs xs' ys' a b

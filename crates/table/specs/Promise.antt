@@ -4,11 +4,9 @@ use Rattle.std.specs.Prelude.{◌≡◌, List, ℕ, ◌*◌, ◌≤◌, ◌<◌,
 use Rattle.cells.specs.declared.Cell.{Cell}
 use Rattle.protocol.specs.declared.Refusal.{Refusal}
 use Rattle.protocol.specs.declared.Refusal.TheVariants.{NoTable, OutsideAllowed}
-use Rattle.protocol.specs.Machine.{Table, Result, fresh, done, refused}
+use Rattle.protocol.specs.Machine.{Table, Result, fresh, done, refused, Answer}
 use Rattle.protocol.specs.Fits.{Sizes}
 use Rattle.sheet.specs.Sheet.{sheet, started}
-use Rattle.sheet.specs.Answer.{meaning}
-use Rattle.sheet.specs.declared.Answer.{Answer}
 use Rattle.words.specs.Layout.{RECORD, RECORDS}
 use Rattle.words.specs.Place.{Kept}
 use Rattle.record.specs.Begun.{Begun}
@@ -22,21 +20,21 @@ pub record Became (xs ys : List ℕ) (t : Table sheet) : Type 0 where
   pub size : length ys ≡ length xs
 
 -- "A refusal returns its number .. and leaves table and output buffer untouched."
-pub record RefusedWith (r : Refusal) (xs : List ℕ) (a : Answer) (ys : List ℕ) : Type 0 where
-  pub number : meaning a ≡ refused r
+pub record RefusedWith (r : Refusal) (xs : List ℕ) (a : Answer sheet) (ys : List ℕ) : Type 0 where
+  pub number : a ≡ refused r
   pub untouched : ys ≡ xs
 
 -- A call that makes the machine's step s of a table, and answers 1 on contents that are none.
-pub record Stepped (s : Table sheet → Result sheet) (xs : List ℕ) (a : Answer) (ys : List ℕ) : Type 0 where
+pub record Stepped (s : Table sheet → Result sheet) (xs : List ℕ) (a : Answer sheet) (ys : List ℕ) : Type 0 where
   pub no_table : (IsTable xs → ⊥) → RefusedWith NoTable xs a ys
-  pub answer : IsTable xs → meaning a ≡ (s (reading xs)).answer
+  pub answer : IsTable xs → a ≡ (s (reading xs)).answer
   pub after : IsTable xs → Became xs ys (s (reading xs)).table
 
 -- start: "2, 1", and else the table at first.
-pub record Started (devices cells : ℕ) (xs : List ℕ) (a : Answer) (ys : List ℕ) : Type 0 where
+pub record Started (devices cells : ℕ) (xs : List ℕ) (a : Answer sheet) (ys : List ℕ) : Type 0 where
   pub outside : (Sizes devices cells → ⊥) → RefusedWith OutsideAllowed xs a ys
   pub short : Sizes devices cells → length xs < need devices → RefusedWith NoTable xs a ys
-  pub begun : Sizes devices cells → need devices ≤ length xs → (meaning a ≡ done) × Became xs ys (fresh sheet (started devices cells))
+  pub begun : Sizes devices cells → need devices ≤ length xs → (a ≡ done) × Became xs ys (fresh sheet (started devices cells))
 
 -- ys is xs with the records of the first n devices changed, each as Q says of its number, its old words and its new ones.
 pub record Each (Q : ℕ → List ℕ → List ℕ → Type 0) (xs ys : List ℕ) (n : ℕ) : Type 0 where

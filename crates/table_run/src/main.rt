@@ -15,11 +15,25 @@ use words::layout::{RECORD, RECORDS};
 // Enough for nine devices, and some words past them.
 const ROOM: usize = RECORDS + RECORD * 9 + 60;
 
-// What is read of a line: the place of the number that is being read (0 in the name, 1 at the first space, 8 and 9 for a poke), the number so far,
-// and the numbers that are kept.
+// Which part of a line is being read. The two of a poke take turns.
+#[derive(Clone, Copy, Debug, PartialEq, Eq)]
+enum Part {
+    Name,
+    FirstSpace,
+    Fill,
+    LentToStart,
+    Devices,
+    Cells,
+    LentToPush,
+    Device,
+    PokeIndex,
+    PokeValue,
+}
+
+// What is read of a line: the part that is being read, the number so far, and the numbers that are kept.
 #[derive(Clone, Copy)]
 struct Line {
-    place: u64,
+    part: Part,
     number: u64,
     lent: u64,
     devices: u64,
@@ -30,7 +44,7 @@ struct Line {
 
 fn begun() -> Line {
     Line {
-        place: 0,
+        part: Part::Name,
         number: 0,
         lent: 0,
         devices: 0,
@@ -43,22 +57,6 @@ fn begun() -> Line {
 fn poke(t: &mut [u64], i: usize, v: u64) {
     if i < t.len() {
         t[i] = v;
-    }
-}
-
-fn fill(t: &mut [u64], v: u64) {
-    let mut i = 0;
-    while i < t.len() {
-        poke(t, i, v);
-        i += 1;
-    }
-}
-
-fn copy(from: &[u64], to: &mut [u64]) {
-    let mut i = 0;
-    while i < from.len() {
-        poke(to, i, from[i]);
-        i += 1;
     }
 }
 
@@ -77,17 +75,14 @@ fn started(
     if is_done(a) {
         return Ok(true);
     }
-    write(rt, b" start ")?;
+    print!(rt; " start ")?;
     show_answer(rt, a)?;
     Ok(false)
 }
 
 fn show_verdict(rt: &impl Print, b: bool) -> io::Result<()> {
-    if b {
-        write(rt, b" table ")
-    } else {
-        write(rt, b" no table ")
-    }
+    let said = if b { "table" } else { "no table" };
+    print!(rt; " {said} ")
 }
 
 // Pushes on the first words of t.
@@ -102,69 +97,71 @@ fn pushed(rt: &impl Print, t: &mut [u64], lent: usize, device: u64) -> io::Resul
 // What the case changed, and the end of its line.
 fn end(rt: &impl Print, t: &[u64], old: &[u64]) -> io::Result<()> {
     show_changes(rt, t, old)?;
-    write(rt, b"\n")
+    println!(rt; "")
 }
 
 // The line is read: runs its case.
-fn run(rt: &impl Print, line: Line, t: &mut [u64], old: &mut [u64]) -> io::Result<()> {
+fn run(rt: &impl Print, line: Line, t: &mut [u64; ROOM], old: &mut [u64; ROOM]) -> io::Result<()> {
     if !line.started {
         return end(rt, t, old);
     }
-    copy(t, old);
+    *old = *t;
     let lent = line.lent as usize;
     pushed(rt, t, lent, line.device)?;
     end(rt, t, old)
 }
 
-// The place after a place: the two of a poke take turns.
-fn after(place: u64) -> u64 {
-    if place < 9 { place + 1 } else { 8 }
+// The part after a part.
+fn after(part: Part) -> Part {
+    match part {
+        Part::Name => Part::FirstSpace,
+        Part::FirstSpace => Part::Fill,
+        Part::Fill => Part::LentToStart,
+        Part::LentToStart => Part::Devices,
+        Part::Devices => Part::Cells,
+        Part::Cells => Part::LentToPush,
+        Part::LentToPush => Part::Device,
+        Part::Device | Part::PokeValue => Part::PokeIndex,
+        Part::PokeIndex => Part::PokeValue,
+    }
 }
 
 // The number read is done with: it is kept for later, or it is used.
-fn take(rt: &impl Print, line: Line, t: &mut [u64], old: &mut [u64]) -> io::Result<Line> {
+fn take(
+    rt: &impl Print,
+    line: Line,
+    t: &mut [u64; ROOM],
+    old: &mut [u64; ROOM],
+) -> io::Result<Line> {
     let n = line.number;
-    let place = line.place;
+    let part = line.part;
     let mut next = line;
     next.number = 0;
-    next.place = after(place);
-    match place {
-        1 => {}
-        2 => {
-            fill(t, n);
-            fill(old, n);
+    next.part = after(part);
+    match part {
+        Part::Name | Part::FirstSpace => {}
+        Part::Fill => {
+            t.fill(n);
+            old.fill(n);
         }
-        3 | 6 => next.lent = n,
-        4 => next.devices = n,
-        5 => next.started = started(rt, t, line.lent as usize, line.devices, n)?,
-        7 => next.device = n,
-        8 => next.index = n,
-        _ => poke(t, line.index as usize, n),
+        Part::LentToStart | Part::LentToPush => next.lent = n,
+        Part::Devices => next.devices = n,
+        Part::Cells => next.started = started(rt, t, line.lent as usize, line.devices, n)?,
+        Part::Device => next.device = n,
+        Part::PokeIndex => next.index = n,
+        Part::PokeValue => poke(t, line.index as usize, n),
     }
     Ok(next)
 }
 
-fn wide(b: u8) -> u64 {
-    b as u64
-}
-
 // n with one more decimal digit; a byte that is none, or one too many, changes nothing.
 fn digit(n: u64, b: u8) -> u64 {
-    if b < b'0' {
+    if !b.is_ascii_digit() {
         return n;
     }
-    if b > b'9' {
-        return n;
-    }
-    if n > 1844674407370955161 {
-        return n;
-    }
-    let tens = n * 10;
-    let d = wide(b - b'0');
-    if d > 18446744073709551615 - tens {
-        return n;
-    }
-    tens + d
+    n.checked_mul(10)
+        .and_then(|tens| tens.checked_add(u64::from(b - b'0')))
+        .unwrap_or(n)
 }
 
 // A byte of the name, which ends at its colon.
@@ -173,14 +170,20 @@ fn name(rt: &impl Print, line: Line, b: u8) -> io::Result<Line> {
     write(rt, &text)?;
     let mut next = line;
     if b == b':' {
-        next.place = 1;
+        next.part = Part::FirstSpace;
     }
     Ok(next)
 }
 
 // The next byte of the input.
-fn byte(rt: &impl Print, line: Line, b: u8, t: &mut [u64], old: &mut [u64]) -> io::Result<Line> {
-    if line.place == 0 {
+fn byte(
+    rt: &impl Print,
+    line: Line,
+    b: u8,
+    t: &mut [u64; ROOM],
+    old: &mut [u64; ROOM],
+) -> io::Result<Line> {
+    if line.part == Part::Name {
         return name(rt, line, b);
     }
     if b == b' ' {
@@ -196,12 +199,15 @@ fn byte(rt: &impl Print, line: Line, b: u8, t: &mut [u64], old: &mut [u64]) -> i
     Ok(next)
 }
 
-fn run_all(rt: &impl Print, text: &[u8], t: &mut [u64], old: &mut [u64]) -> io::Result<()> {
+fn run_all(
+    rt: &impl Print,
+    text: &[u8],
+    t: &mut [u64; ROOM],
+    old: &mut [u64; ROOM],
+) -> io::Result<()> {
     let mut line = begun();
-    let mut i = 0;
-    while i < text.len() {
-        line = byte(rt, line, text[i], t, old)?;
-        i += 1;
+    for b in text {
+        line = byte(rt, line, *b, t, old)?;
     }
     Ok(())
 }

@@ -7,25 +7,24 @@ use native.Mathlib.Omega.{arith}
 use borrow.Author.Tests.{lt-ltb, le-ltb, ne_eqb, leb-true, leb-false}
 use lib.ListN.{length, get_or}
 use lib.Dec.{ltb, leb, eqb}
-use Rattle.text.specs.Number.{on_whole, next_digit, digits_from, leading_zero, decimal_of}
-use Rattle.text.specs.declared.number.Whole.{Whole}
-use Rattle.text.specs.declared.number.Whole.TheVariants.{Is, Not}
+use Rattle.text.specs.Number.{on_some, next_digit, digits_from, leading_zero, decimal_of}
+use Rattle.std.specs.Prelude.{Option, Some, None}
 use Rattle.text.specs.Text.{decimal_text}
 use Rattle.text.proofs.Digits.{next_is, NextRead, next_read, snoc, one_digit, on_is, not_is, is_is}
 use Rattle.text.proofs.HexText.{low_byte}
 use Rattle.text.proofs.DecimalText.{by_digits, decimal_small, decimal_more, text_some, text_head}
 use Rattle.text.proofs.Reading.{decimal_is}
 
-digits_text : (most n : ℕ) → n ≤ most → digits_from 10 most 0 (decimal_text n) ≡ Is n
-digits_text most = by_digits (λ (n : ℕ). n ≤ most → digits_from 10 most 0 (decimal_text n) ≡ Is n)
+digits_text : (most n : ℕ) → n ≤ most → digits_from 10 most 0 (decimal_text n) ≡ Some n
+digits_text most = by_digits (λ (n : ℕ). n ≤ most → digits_from 10 most 0 (decimal_text n) ≡ Some n)
     (λ n h l. ap (digits_from 10 most 0) (decimal_small n h) ∙ one_digit 10 most 0 (48 + n % 10) ∙ last 0 n (omega arith) l)
     (λ n h ih l.
     ap (digits_from 10 most 0) (decimal_more n h)
     ∙ snoc 10 most 0 (decimal_text (n / 10)) (48 + n % 10)
-    ∙ ap (λ (w : Whole). on_whole Not w (λ v. next_digit 10 most v (48 + n % 10))) (ih (omega arith))
+    ∙ ap (λ (w : Option ℕ). on_some None w (λ v. next_digit 10 most v (48 + n % 10))) (ih (omega arith))
     ∙ last (n / 10) n (omega arith) l)
   where
-    last : (number n : ℕ) → n / 10 ≡ number → n ≤ most → next_digit 10 most number (48 + n % 10) ≡ Is n
+    last : (number n : ℕ) → n / 10 ≡ number → n ≤ most → next_digit 10 most number (48 + n % 10) ≡ Some n
     last number n e l =
         next_is 10 most number (48 + n % 10) (n % 10) n (omega arith) (low_byte (n % 10) (omega arith)) (omega arith) (omega arith) l
 
@@ -47,7 +46,7 @@ text_plain n = by (leb n 9) refl
         by_head false q = refl
 
 -- a number's text is read as the number
-pub decimal_complete : (most n : ℕ) → n ≤ most → decimal_of most (decimal_text n) ≡ Is n
+pub decimal_complete : (most n : ℕ) → n ≤ most → decimal_of most (decimal_text n) ≡ Some n
 decimal_complete most n h =
     sym (decimal_is most (decimal_text n) (λ e. omega (arith, text_some n)) (sym (text_plain n))) ∙ digits_text most n h
 
@@ -72,7 +71,7 @@ digits_sound :
     (most number : ℕ) (l : List ℕ) (v : ℕ)
     → 1 ≤ number
     → number ≤ most
-    → digits_from 10 most number l ≡ Is v
+    → digits_from 10 most number l ≡ Some v
     → (decimal_text v ≡ decimal_text number ++ l) × (v ≤ most)
 unfolding digits_from
 digits_sound most number [] v h f e =
@@ -96,14 +95,14 @@ not_zero (suc n) k = omega arith
 first_sound :
     (most b : ℕ) (l : List ℕ) (v : ℕ)
     → leading_zero (b ∷ l) ≡ false
-    → digits_from 10 most 0 (b ∷ l) ≡ Is v
+    → digits_from 10 most 0 (b ∷ l) ≡ Some v
     → (b ∷ l ≡ decimal_text v) × (v ≤ most)
 unfolding digits_from
 first_sound most b l v z e =
     let o = on_is (next_digit 10 most 0 b) (λ u. digits_from 10 most u l) v e in
     by l z o.0 (next_read 10 most 0 b o.0 o.1) o.2
   where
-    by : (l : List ℕ) → leading_zero (b ∷ l) ≡ false → (u : ℕ) → NextRead 10 most 0 b u → digits_from 10 most u l ≡ Is v → (b ∷ l ≡ decimal_text v) × (v ≤ most)
+    by : (l : List ℕ) → leading_zero (b ∷ l) ≡ false → (u : ℕ) → NextRead 10 most 0 b u → digits_from 10 most u l ≡ Some v → (b ∷ l ≡ decimal_text v) × (v ≤ most)
     by [] z u r q = let s : u ≡ v = is_is q in (sym (ap decimal_text (sym s) ∙ text_first most 0 b u r refl), omega (arith, r.fits))
     by (x ∷ l) z u r q =
         let g : 1 ≤ u = not_zero u (λ k. zero_leads b x l (omega (arith, byte_is most 0 b u r)) z) in
@@ -114,15 +113,15 @@ decimal_by :
     (most : ℕ) (l : List ℕ) (v : ℕ) (a b : Bool)
     → eqb (length l) 0 ≡ a
     → leading_zero l ≡ b
-    → decimal_of most l ≡ Is v
-    → (leading_zero l ≡ false) × (digits_from 10 most 0 l ≡ Is v)
+    → decimal_of most l ≡ Some v
+    → (leading_zero l ≡ false) × (digits_from 10 most 0 l ≡ Some v)
 unfolding decimal_of
 decimal_by most l v true b e z h = not_is (sym (rw e) ∙ h)
 decimal_by most l v false true e z h = not_is (sym (rw (e, z)) ∙ h)
 decimal_by most l v false false e z h = (z, sym (rw (e, z)) ∙ h)
 
 -- what is read as a number is the number's text, and within the bound
-pub decimal_sound : (most : ℕ) (l : List ℕ) (v : ℕ) → decimal_of most l ≡ Is v → (l ≡ decimal_text v) × (v ≤ most)
+pub decimal_sound : (most : ℕ) (l : List ℕ) (v : ℕ) → decimal_of most l ≡ Some v → (l ≡ decimal_text v) × (v ≤ most)
 unfolding decimal_of
 decimal_sound most [] v h = not_is h
 decimal_sound most (b ∷ l) v h =

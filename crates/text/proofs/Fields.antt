@@ -7,12 +7,17 @@ use lib.ListN.{length, get_or}
 use native.Mathlib.Omega.{arith}
 use borrow.Author.Tests.{ne_eqb, eqb-true}
 use lib.Dec.{eqb}
-use Rattle.text.specs.Field.{record_of, commas_of, after_commas, up_to_comma, field_of, same_as}
+use Rattle.text.specs.Field.{record_of, commas_of, after_commas, up_to_comma, field_of}
+use Rattle.std.specs.Prelude.{bytes_eq}
+use Rattle.std.proofs.lemmas.Slice.Eq.{bytes_eq-Decides}
 use Rattle.text.specs.Text.{Without}
 use Rattle.text.proofs.Cases.{cond_of}
-use Rattle.text.proofs.FieldWalk.{after_none}
 
 -- put together, then taken apart
+after_none : (l : List ℕ) → after_commas 0 l ≡ l
+unfolding after_commas
+after_none l = refl
+
 up_plain : (f : List ℕ) → Without 44 f → up_to_comma f ≡ f
 unfolding up_to_comma
 up_plain [] p = refl
@@ -100,26 +105,9 @@ field_behind : (k : ℕ) (l : List ℕ) → field_of (suc k) l ≡ field_of k (r
 unfolding field_of rest_of
 field_behind k l = ap up_to_comma (after_after k l)
 
--- texts that are the same
-pub same_eq : (a b : List ℕ) → same_as a b ≡ true → a ≡ b
-unfolding same_as
-same_eq [] [] e = refl
-same_eq [] (y ∷ b) e = let z : ◌≡◌ {A = ℕ} 0 1 = cc in absurd (omega arith)
-same_eq (x ∷ a) [] e = let z : ◌≡◌ {A = ℕ} 0 1 = cc in absurd (omega arith)
-same_eq (x ∷ a) (y ∷ b) e = by (eqb x y) refl (same_eq a b)
-  where
-    by : (t : Bool) → eqb x y ≡ t → (same_as a b ≡ true → a ≡ b) → x ∷ a ≡ y ∷ b
-    by true q ih =
-        let p : x ≡ y = eqb-true x y q in
-        let r : a ≡ b = ih (sym (rw q) ∙ e) in
-        cc
-    by false q ih =
-        let f : false ≡ true = sym (rw q) ∙ e in
-        let z : ◌≡◌ {A = ℕ} 0 1 = cc in absurd (omega arith)
-
 -- one test of many: the text, or what the others say
-pub tested : {A : Type 0} (P : A → Type 0) (f t : List ℕ) {x y : A} → P y → (f ≡ t → P x) → P (cond (same_as f t) x y)
-tested P f t q p = cond_of P (same_as f t) (λ e. p (same_eq f t e)) (λ _. q)
+pub tested : {A : Type 0} (P : A → Type 0) (f t : List ℕ) {x y : A} → P y → (f ≡ t → P x) → P (cond (bytes_eq f t) x y)
+tested P f t q p = cond_of P (bytes_eq f t) (λ e. p ((bytes_eq-Decides f t).0 e)) (λ _. q)
 
 -- n fields, from field k on
 abbrev pub fields_from : ℕ → ℕ → List ℕ → List (List ℕ)

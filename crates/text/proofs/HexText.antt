@@ -2,7 +2,6 @@
 use Prim.Native.Nat.{ℕ, zero, suc, ◌+◌, ◌-◌, ◌/◌, ◌%◌, ◌≤◌, ◌<◌}
 use mathlib.Core.Path.{◌≡◌, refl, ◌∙◌}
 use mathlib.Core.List.{[], ◌∷◌, ◌++◌}
-use native.Mathlib.Omega.{arith}
 use native.Mathlib.Numerals.{add-one, sub-one}
 use borrow.Author.Tests.{lt-ltb, le-ltb}
 use lib.ListN.{length, length-append}
@@ -17,13 +16,6 @@ unfolding digit_byte
 high_byte d h = rw (le-ltb d 10 h)
 
 -- a digit's byte as the code makes it
-pub low_byte_made : (d : ℕ) → d < 10 → digit_byte d ≡ 48 + d % 16
-unfolding digit_byte
-low_byte_made d h = let e : d % 16 ≡ d = omega arith in rw (lt-ltb d 10 h, e)
-
-pub high_byte_made : (d : ℕ) → 10 ≤ d → d < 16 → digit_byte d ≡ 55 + d % 16
-unfolding digit_byte
-high_byte_made d h g = let e : d % 16 ≡ d = omega arith in rw (le-ltb d 10 h, e)
 
 pub hex_more : (k n : ℕ) → (k ≡ 0 → ⊥) → hex_text k n ≡ hex_text (k - 1) (n / 16) ++ (digit_byte (n % 16) ∷ [])
 unfolding hex_text

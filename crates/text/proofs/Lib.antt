@@ -8,6 +8,6 @@ pub mod HexTrip
 pub mod Sign
 pub mod SignedTrip
 pub mod Without
-pub mod FieldWalk
+pub mod Parts
 pub mod Fields
 pub mod PutLaws

@@ -1,11 +1,13 @@
 -- Text that is put into a buffer, piece behind piece. Assumes nothing.
-use Prim.Native.Nat.{ℕ, ◌+◌, ◌≤◌, ◌<◌}
+use Prim.Native.Nat.{ℕ, ◌+◌, ◌-◌, ◌≤◌}
 use mathlib.Core.Path.{◌≡◌, refl, ap, sym, subst, ◌∙◌}
 use mathlib.Core.List.{List, [], ◌∷◌, ◌++◌, append_assoc, append-nil}
 use native.Mathlib.Omega.{arith}
 use native.Mathlib.Numerals.{add-one}
-use lib.ListN.{take-append-drop, length, get_or, take, drop, set, length-set, length-append}
-use lib.Seq.{take-suc, take-suc-set, drop-set-lt, drop-drop}
+use lib.ListN.{take-append-drop, length, take, drop, set, length-set, length-append, length-drop}
+use lib.Seq.{length-take-le, take-suc-set, drop-set-lt, drop-drop}
+use borrow.Rule.Slice.PartMut.{put_mid, same_len_mid}
+use Rattle.std.proofs.lemmas.Slice.{take-put_mid, drop-put_mid}
 use Rattle.text.specs.Text.{Put}
 
 module _ (a : List ℕ) (at : ℕ) where
@@ -53,15 +55,14 @@ put_once a at s b r d q p o =
 pub put_as : (a : List ℕ) (at : ℕ) {s t : List ℕ} (b : List ℕ) (r : ℕ) → s ≡ t → Put a at s b r → Put a at t b r
 put_as a at b r e p = subst (λ (l : List ℕ). Put a at l b r) e p
 
--- one byte more of a text that is copied
-pub put_more :
-    (a : List ℕ) (at : ℕ) (s b : List ℕ) (i : ℕ)
-    → i < length s
+-- a text that is copied into the part of the buffer that it fills
+pub put_part :
+    (a : List ℕ) (at : ℕ) (s : List ℕ)
     → at + length s ≤ length a
-    → Put a at (take i s) b (at + i)
-    → Put a at (take (i + 1) s) (set b (at + i) (get_or s i 0)) (at + (i + 1))
-put_more a at s b i h f p =
-    let e : at + i + 1 ≡ at + (i + 1) = omega arith in
-    let o : Put b (at + i) (get_or s i 0 ∷ []) (set b (at + i) (get_or s i 0)) (at + i + 1) = put_one b (at + i) (get_or s i 0) (omega (arith, p.long)) in
-    subst (λ (n : ℕ). Put a at (take (i + 1) s) (set b (at + i) (get_or s i 0)) n) e
-    (put_as a at _ _ (sym (ap (λ (n : ℕ). take n s) (add-one i) ∙ take-suc s i 0 h)) (put_then a at (take i s) b (at + i) _ _ _ p o))
+    → Put a at s (put_mid at (at + length s - at) a s) (at + length s)
+put_part a at s f = record {
+  behind = refl;
+  long = same_len_mid at (at + length s - at) a s (omega (arith, length-take-le (at + length s - at) (drop at a) (omega (arith, length-drop at a))));
+  holds = take-put_mid at (at + length s - at) a s (at + length s) refl (omega arith);
+  kept = drop-put_mid at (at + length s - at) a s (at + length s) (omega arith) (omega arith) (omega arith);
+}

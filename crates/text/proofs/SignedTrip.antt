@@ -11,9 +11,7 @@ use lib.IntN.{ℤ, pos, negsuc}
 use mir.Syntax.{w64}
 use mir.Val.{SFits}
 use Rattle.text.specs.Number.{decimal_of, positive_of, negative_of, starts_minus, signed_of}
-use Rattle.text.specs.declared.number.Whole.{Whole}
-use Rattle.text.specs.declared.number.Whole.TheVariants.{Is, Not}
-use Rattle.text.specs.declared.number.Signed.TheVariants.{Is as SIs, Not as SNot}
+use Rattle.std.specs.Prelude.{Option, Some, None}
 use Rattle.text.specs.Text.{decimal_text, is_negative, signed_text}
 use Rattle.text.proofs.DecimalText.{head_digit, text_some}
 use Rattle.text.proofs.DecimalTrip.{decimal_complete, decimal_sound}
@@ -22,13 +20,13 @@ use Rattle.text.proofs.Reading.{positive_is, positive_not, negative_is, negative
 abbrev most : ℕ
 most = 9223372036854775808
 
-signed_no : {A : Type 0} {z : ℤ} → SNot ≡ SIs z → A
+signed_no : {A : Type 0} {z : ℤ} → None ≡ Some z → A
 signed_no e = let q : ◌≡◌ {A = ℕ} 0 1 = cc in absurd (omega arith)
 
-signed_is : {y z : ℤ} → SIs y ≡ SIs z → y ≡ z
+signed_is : {y z : ℤ} → Some y ≡ Some z → y ≡ z
 signed_is e = cc
 
-pub signed_complete : (z : ℤ) → SFits w64 z → signed_of (signed_text z) ≡ SIs z
+pub signed_complete : (z : ℤ) → SFits w64 z → signed_of (signed_text z) ≡ Some z
 unfolding signed_text is_negative
 signed_complete (pos n) h =
     let b : n < 2 ^ 63 = h.sfits in
@@ -40,27 +38,27 @@ signed_complete (negsuc k) h =
     sym (signed_minus (45 ∷ decimal_text (suc k)) m)
     ∙ ap negative_of (decimal_complete most (suc k) (omega arith))
     ∙ negative_is (suc k) (λ e. omega arith) (omega arith)
-    ∙ ap (λ (n : ℕ). SIs (negsuc n)) (omega arith)
+    ∙ ap (λ (n : ℕ). Some (negsuc n)) (omega arith)
 
-positive_by : (w : Whole) (z : ℤ) → positive_of w ≡ SIs z → (v : ℕ) × (w ≡ Is v) × (z ≡ pos v) × (v < 2 ^ 63)
+positive_by : (w : Option ℕ) (z : ℤ) → positive_of w ≡ Some z → (v : ℕ) × (w ≡ Some v) × (z ≡ pos v) × (v < 2 ^ 63)
 unfolding positive_of
-positive_by Not z e = signed_no e
-positive_by (Is v) z e = by (leb v 9223372036854775807) refl
+positive_by None z e = signed_no e
+positive_by (Some v) z e = by (leb v 9223372036854775807) refl
   where
-    by : (t : Bool) → leb v 9223372036854775807 ≡ t → (u : ℕ) × (Is v ≡ Is u) × (z ≡ pos u) × (u < 2 ^ 63)
+    by : (t : Bool) → leb v 9223372036854775807 ≡ t → (u : ℕ) × (Some v ≡ Some u) × (z ≡ pos u) × (u < 2 ^ 63)
     by true q = let h : v ≤ 9223372036854775807 = leb-true _ _ q in (v, refl, sym (signed_is (sym (positive_is v h) ∙ e)), omega arith)
     by false q = signed_no (sym (positive_not v (leb-false _ _ q)) ∙ e)
 
-negative_by : (w : Whole) (z : ℤ) → negative_of w ≡ SIs z → (v : ℕ) × (w ≡ Is (suc v)) × (z ≡ negsuc v) × (v < 2 ^ 63)
+negative_by : (w : Option ℕ) (z : ℤ) → negative_of w ≡ Some z → (v : ℕ) × (w ≡ Some (suc v)) × (z ≡ negsuc v) × (v < 2 ^ 63)
 unfolding negative_of
-negative_by Not z e = signed_no e
-negative_by (Is zero) z e = signed_no (sym (negative_zero 0 refl) ∙ e)
-negative_by (Is (suc v)) z e = by (leb (suc v) most) refl
+negative_by None z e = signed_no e
+negative_by (Some zero) z e = signed_no (sym (negative_zero 0 refl) ∙ e)
+negative_by (Some (suc v)) z e = by (leb (suc v) most) refl
   where
     nz : suc v ≡ 0 → ⊥
     nz k = omega arith
 
-    by : (t : Bool) → leb (suc v) most ≡ t → (u : ℕ) × (Is (suc v) ≡ Is (suc u)) × (z ≡ negsuc u) × (u < 2 ^ 63)
+    by : (t : Bool) → leb (suc v) most ≡ t → (u : ℕ) × (Some (suc v) ≡ Some (suc u)) × (z ≡ negsuc u) × (u < 2 ^ 63)
     by true q =
         let h : suc v ≤ most = leb-true _ _ q in
         let s : negsuc (suc v - 1) ≡ z = signed_is (sym (negative_is (suc v) nz h) ∙ e) in
@@ -78,7 +76,7 @@ plain_text : (v : ℕ) → decimal_text v ≡ signed_text (pos v)
 unfolding signed_text is_negative
 plain_text v = refl
 
-pub signed_sound : (l : List ℕ) (z : ℤ) → signed_of l ≡ SIs z → (l ≡ signed_text z) × SFits w64 z
+pub signed_sound : (l : List ℕ) (z : ℤ) → signed_of l ≡ Some z → (l ≡ signed_text z) × SFits w64 z
 signed_sound l z e = by (starts_minus l) refl
   where
     by : (t : Bool) → starts_minus l ≡ t → (l ≡ signed_text z) × SFits w64 z

@@ -1,5 +1,5 @@
 -- The fields of a record (document 01, "Step program": "RFC 4180 records …, no quotes"), which commas (44) separate. Assumes nothing.
-use Rattle.std.specs.Prelude.{ℕ, zero, suc, List, [], ◌∷◌, ◌++◌, Bool, true, false, cond, eqb}
+use Rattle.std.specs.Prelude.{ℕ, zero, suc, List, [], ◌∷◌, ◌++◌, cond, eqb}
 
 -- the record of a first field and others: a comma between each two
 unfoldable pub record_of : List ℕ → List (List ℕ) → List ℕ
@@ -24,10 +24,3 @@ up_to_comma (b ∷ rest) = cond (eqb b 44) [] (b ∷ up_to_comma rest)
 unfoldable pub field_of : ℕ → List ℕ → List ℕ
 unfolding up_to_comma after_commas
 field_of k l = up_to_comma (after_commas k l)
-
--- whether two texts are the same bytes
-unfoldable pub same_as : List ℕ → List ℕ → Bool
-same_as [] [] = true
-same_as [] (y ∷ ys) = false
-same_as (x ∷ xs) [] = false
-same_as (x ∷ xs) (y ∷ ys) = cond (eqb x y) (same_as xs ys) false

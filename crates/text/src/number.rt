@@ -1,170 +1,100 @@
 // Numbers read off a field.
-ghost use Rattle.std.specs.Prelude.{◌≡◌, ◌<◌};
-ghost use Rattle.text.specs.Number.{digit_of, with_digit, next_digit, digits_from, leading_zero, decimal_of, positive_of, negative_of, starts_minus, signed_of, bits_of};
-
-// A number, or the answer that the bytes are none.
-#[derive(Clone, Copy)]
-pub enum Whole {
-    Is(u64),
-    Not,
-}
-
-// A signed number, or the answer that the bytes are none.
-#[derive(Clone, Copy)]
-pub enum Signed {
-    Is(i64),
-    Not,
-}
-
-fn wide(b: u8) -> u64
-    ensures { result ≡ b }
-{
-    b as u64
-}
+ghost use Rattle.std.specs.Prelude.{◌≡◌};
+ghost use Rattle.text.specs.Number.{digit_of, with_digit, next_digit, digits_from, leading_zero, decimal_of, negative_of, signed_of, bits_of};
 
 // The value of a digit, 0 to 9 or A to F.
-fn digit_of(b: u8) -> Whole
+#[tactic(auto, unfolding(crate::specs::Number::digit_of))]
+fn digit_of(b: u8) -> Option<u64>
     ensures { result ≡ digit_of b }
 {
-    if b < 48 {
-        return Whole::Not;
+    match b {
+        b'0'..=b'9' => Some(u64::from(b - b'0')),
+        b'A'..=b'F' => Some(u64::from(b - b'A') + 10),
+        _ => None,
     }
-    if b <= 57 {
-        return Whole::Is(wide(b) - 48);
-    }
-    if b < 65 {
-        return Whole::Not;
-    }
-    if b <= 70 {
-        return Whole::Is(wide(b) - 55);
-    }
-    Whole::Not
 }
 
 // The number with one digit more, where it is a digit of the base and the number stays within most.
-fn with_digit(base: u64, most: u64, number: u64, d: u64) -> Whole
-    requires { 0 < base }
+#[tactic(auto, unfolding(crate::specs::Number::with_digit))]
+fn with_digit(base: u64, most: u64, number: u64, d: u64) -> Option<u64>
     ensures { result ≡ with_digit base most number d }
 {
     if base <= d {
-        return Whole::Not;
+        return None;
     }
-    if most / base < number {
-        return Whole::Not;
+    let longer = number.checked_mul(base)?.checked_add(d)?;
+    if most < longer {
+        return None;
     }
-    let front = number * base;
-    if most - front < d {
-        return Whole::Not;
-    }
-    Whole::Is(front + d)
+    Some(longer)
 }
 
-fn next_digit(base: u64, most: u64, number: u64, b: u8) -> Whole
-    requires { 0 < base }
+#[tactic(auto, unfolding(crate::specs::Number::next_digit))]
+fn next_digit(base: u64, most: u64, number: u64, b: u8) -> Option<u64>
     ensures { result ≡ next_digit base most number b }
 {
-    match digit_of(b) {
-        Whole::Is(d) => with_digit(base, most, number, d),
-        Whole::Not => Whole::Not,
-    }
+    with_digit(base, most, number, digit_of(b)?)
 }
 
 // The number that the digits of the base are, at most most.
-fn digits(f: &[u8], base: u64, most: u64) -> Whole
-    requires { 0 < base }
+#[tactic(auto, unfolding(crate::specs::Number::digits_from))]
+fn digits(f: &[u8], base: u64, most: u64) -> Option<u64>
     ensures { result ≡ digits_from base most 0 f.now }
 {
-    let mut number: u64 = 0;
-    let mut i = 0;
-    while i < f.len() {
-        match next_digit(base, most, number, f[i]) {
-            Whole::Is(v) => {
-                number = v;
-            }
-            Whole::Not => {
-                return Whole::Not;
-            }
-        }
-        i += 1;
+    let mut number = 0;
+    for b in f {
+        number = next_digit(base, most, number, *b)?;
     }
-    Whole::Is(number)
+    Some(number)
 }
 
 // Whether a 0 stands in front of something.
+#[tactic(auto, unfolding(crate::specs::Number::leading_zero))]
 fn leading_zero(f: &[u8]) -> bool
     ensures { result ≡ leading_zero f.now }
 {
-    if 1 < f.len() { f[0] == 48 } else { false }
+    matches!(f, [b'0', _, ..])
 }
 
 // The decimal that the bytes are: digits alone, no leading zero, at most most.
-pub fn decimal(f: &[u8], most: u64) -> Whole
+#[tactic(auto, unfolding(crate::specs::Number::decimal_of))]
+pub fn decimal(f: &[u8], most: u64) -> Option<u64>
     ensures { result ≡ decimal_of most f.now }
 {
-    if f.len() == 0 {
-        return Whole::Not;
-    }
-    if leading_zero(f) {
-        return Whole::Not;
+    if f.is_empty() || leading_zero(f) {
+        return None;
     }
     digits(f, 10, most)
 }
 
-fn positive(w: Whole) -> Signed
-    ensures { result ≡ positive_of w }
+// The number below 0 whose digits are those of v.
+#[tactic(auto, unfolding(crate::specs::Number::negative_of))]
+fn negative(v: u64) -> Option<i64>
+    ensures { result ≡ negative_of (Some v) }
 {
-    match w {
-        Whole::Is(v) => {
-            if 9223372036854775807 < v {
-                return Signed::Not;
-            }
-            Signed::Is(v as i64)
-        }
-        Whole::Not => Signed::Not,
-    }
-}
-
-fn negative(w: Whole) -> Signed
-    ensures { result ≡ negative_of w }
-{
-    match w {
-        Whole::Is(v) => {
-            if v == 0 {
-                return Signed::Not;
-            }
-            if 9223372036854775808 < v {
-                return Signed::Not;
-            }
-            Signed::Is(-1 - ((v - 1) as i64))
-        }
-        Whole::Not => Signed::Not,
-    }
-}
-
-// Whether a minus stands first.
-fn starts_minus(f: &[u8]) -> bool
-    ensures { result ≡ starts_minus f.now }
-{
-    if 0 < f.len() { f[0] == 45 } else { false }
+    let rest = i64::try_from(v.checked_sub(1)?).ok()?;
+    Some(-1 - rest)
 }
 
 // The signed decimal that the bytes are: a minus only before a number that is not 0.
-pub fn signed_decimal(f: &[u8]) -> Signed
+#[tactic(auto, unfolding(crate::specs::Number::signed_of, crate::specs::Number::starts_minus, crate::specs::Number::positive_of))]
+pub fn signed_decimal(f: &[u8]) -> Option<i64>
     ensures { result ≡ signed_of f.now }
 {
-    if starts_minus(f) {
-        return negative(decimal(&f[1..], 9223372036854775808));
+    match f {
+        [b'-', rest @ ..] => negative(decimal(rest, 1 << 63)?),
+        _ => i64::try_from(decimal(f, 1 << 63)?).ok(),
     }
-    positive(decimal(f, 9223372036854775808))
 }
 
 // The 64 bits that 16 upper-case hex digits are.
-pub fn bits(f: &[u8]) -> Whole
+#[tactic(auto, unfolding(crate::specs::Number::bits_of))]
+pub fn bits(f: &[u8]) -> Option<u64>
     ensures { result ≡ bits_of f.now }
 {
     if f.len() == 16 {
-        digits(f, 16, 18446744073709551615)
+        digits(f, 16, u64::MAX)
     } else {
-        Whole::Not
+        None
     }
 }

@@ -1,6 +1,6 @@
 // Text put into a buffer. Each function writes at a place and answers the place behind what it wrote.
-ghost use Rattle.std.specs.Prelude.{◌≡◌, [], ◌∷◌, ◌+◌, ◌≤◌, ◌<◌, length, nat_abs};
-ghost use Rattle.text.specs.Text.{Put, decimal_text, hex_text, signed_text, digit_byte, is_negative};
+ghost use Rattle.std.specs.Prelude.{◌≡◌, [], ◌∷◌, ◌+◌, ◌≤◌, ◌<◌, length};
+ghost use Rattle.text.specs.Text.{Put, decimal_text, hex_text, signed_text, digit_byte};
 
 // One byte.
 fn put_byte(out: &mut [u8], at: usize, b: u8) -> usize
@@ -16,12 +16,9 @@ pub fn put(out: &mut [u8], at: usize, s: &[u8]) -> usize
     requires { at + length s.now ≤ length out.old }
     ensures { Put out.old at s.now out.new result }
 {
-    let mut i: usize = 0;
-    while i < s.len() {
-        out[at + i] = s[i];
-        i += 1;
-    }
-    at + i
+    let next = at + s.len();
+    out[at..next].copy_from_slice(s);
+    next
 }
 
 // The decimal digits of n.
@@ -29,23 +26,25 @@ pub fn put_decimal(out: &mut [u8], at: usize, n: u64) -> usize
     requires { at + length (decimal_text n) ≤ length out.old }
     ensures { Put out.old at (decimal_text n) out.new result }
 {
+    let last = b'0' + (n % 10) as u8;
     if n < 10 {
-        put_byte(out, at, 48 + (n % 10) as u8)
+        put_byte(out, at, last)
     } else {
         let m = put_decimal(out, at, n / 10);
-        put_byte(out, m, 48 + (n % 10) as u8)
+        put_byte(out, m, last)
     }
 }
 
 // The byte of a digit, in upper case.
+#[tactic(auto, unfolding(crate::specs::Text::digit_byte))]
 fn digit_byte(d: u64) -> u8
     requires { d < 16 }
     ensures { result ≡ digit_byte d }
 {
     if d < 10 {
-        48 + (d % 16) as u8
+        b'0' + d as u8
     } else {
-        55 + (d % 16) as u8
+        b'A' + (d - 10) as u8
     }
 }
 
@@ -62,28 +61,16 @@ pub fn put_hex(out: &mut [u8], at: usize, k: usize, n: u64) -> usize
     }
 }
 
-fn is_negative(z: i64) -> bool
-    ensures { result ≡ is_negative z }
-{
-    z < 0
-}
-
-// The number without its sign.
-fn magnitude(z: i64) -> u64
-    ensures { result ≡ nat_abs z }
-{
-    if z < 0 { (-1 - z) as u64 + 1 } else { z as u64 }
-}
-
 // The decimal of z, with a minus where it is below 0.
 pub fn put_signed(out: &mut [u8], at: usize, z: i64) -> usize
     requires { at + length (signed_text z) ≤ length out.old }
     ensures { Put out.old at (signed_text z) out.new result }
 {
-    if is_negative(z) {
-        let m = put_byte(out, at, 45);
-        put_decimal(out, m, magnitude(z))
+    let digits = z.unsigned_abs();
+    if z < 0 {
+        let m = put_byte(out, at, b'-');
+        put_decimal(out, m, digits)
     } else {
-        put_decimal(out, at, magnitude(z))
+        put_decimal(out, at, digits)
     }
 }

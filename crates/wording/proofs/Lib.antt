@@ -1,3 +1,3 @@
-pub mod Cases
 pub mod Floats
+pub mod KindNames
 pub mod UpdateNames

@@ -1,6 +1,5 @@
 -- The words of the step program (document 01, "Step program"), as bytes. Assumes nothing.
-use Rattle.std.specs.Prelude.{ℕ, List, [], ◌∷◌, cond}
-use Rattle.text.specs.Field.{same_as}
+use Rattle.std.specs.Prelude.{ℕ, List, [], ◌∷◌, cond, bytes_eq, Option, Some, None, option_map}
 use Rattle.wording.specs.declared.names.Act.{Act}
 use Rattle.wording.specs.declared.names.Kind.{Kind}
 
@@ -64,27 +63,28 @@ moved_text = 109 ∷ 111 ∷ 118 ∷ 101 ∷ 100 ∷ []
 abbrev pub refused_text : List ℕ
 refused_text = 114 ∷ 101 ∷ 102 ∷ 117 ∷ 115 ∷ 101 ∷ 100 ∷ []
 
--- "First field is the step."
-unfoldable pub kind_of_act : List ℕ → Kind
-kind_of_act f =
-    cond (same_as f (act_text Act.Push)) (Kind.Device Act.Push) (
-    cond (same_as f (act_text Act.Send)) (Kind.Device Act.Send) (
-    cond (same_as f (act_text Act.Confirmed)) (Kind.Device Act.Confirmed) (
-    cond (same_as f (act_text Act.Ask)) (Kind.Device Act.Ask) (
-    cond (same_as f (act_text Act.Drop)) (Kind.Device Act.Drop) (
-    cond (same_as f (act_text Act.Receive)) (Kind.Device Act.Receive) (
-    cond (same_as f (act_text Act.Pull)) (Kind.Device Act.Pull) (
-    cond (same_as f (act_text Act.Accept)) (Kind.Device Act.Accept) (
-    cond (same_as f (act_text Act.Serverdrop)) (Kind.Device Act.Serverdrop) (
-    Kind.Unknown)))))))))
+-- the steps that name a device alone, by their names
+unfoldable pub act_of : List ℕ → Option Act
+act_of f =
+    cond (bytes_eq f (act_text Act.Push)) (Some Act.Push) (
+    cond (bytes_eq f (act_text Act.Send)) (Some Act.Send) (
+    cond (bytes_eq f (act_text Act.Confirmed)) (Some Act.Confirmed) (
+    cond (bytes_eq f (act_text Act.Ask)) (Some Act.Ask) (
+    cond (bytes_eq f (act_text Act.Drop)) (Some Act.Drop) (
+    cond (bytes_eq f (act_text Act.Receive)) (Some Act.Receive) (
+    cond (bytes_eq f (act_text Act.Pull)) (Some Act.Pull) (
+    cond (bytes_eq f (act_text Act.Accept)) (Some Act.Accept) (
+    cond (bytes_eq f (act_text Act.Serverdrop)) (Some Act.Serverdrop) (
+    None)))))))))
 
-unfoldable pub kind_of : List ℕ → Kind
-unfolding kind_of_act
+-- "First field is the step."
+unfoldable pub kind_of : List ℕ → Option Kind
+unfolding act_of
 kind_of f =
-    cond (same_as f start_text) Kind.Start (
-    cond (same_as f update_text) Kind.Update (
-    cond (same_as f read_text) Kind.Read (
-    cond (same_as f batch_text) Kind.Batch (
-    cond (same_as f cut_text) Kind.Cut (
-    cond (same_as f crash_text) Kind.Crash (
-    kind_of_act f))))))
+    cond (bytes_eq f start_text) (Some Kind.Start) (
+    cond (bytes_eq f update_text) (Some Kind.Update) (
+    cond (bytes_eq f read_text) (Some Kind.Read) (
+    cond (bytes_eq f batch_text) (Some Kind.Batch) (
+    cond (bytes_eq f cut_text) (Some Kind.Cut) (
+    cond (bytes_eq f crash_text) (Some Kind.Crash) (
+    option_map Kind.Device (act_of f)))))))

@@ -1,11 +1,9 @@
 // The first field of a line.
 ghost use Rattle.std.specs.Prelude.{◌≡◌};
-ghost use Rattle.wording.specs.Names.{kind_of, kind_of_act};
-
-use text::field::same;
+ghost use Rattle.wording.specs.Names.{kind_of};
 
 // The steps that name a device alone.
-#[derive(Clone, Copy)]
+#[derive(Clone, Copy, Debug, PartialEq, Eq)]
 pub enum Act {
     Push,
     Send,
@@ -19,7 +17,7 @@ pub enum Act {
 }
 
 // What the first field names.
-#[derive(Clone, Copy)]
+#[derive(Clone, Copy, Debug, PartialEq, Eq)]
 pub enum Kind {
     Start,
     Update,
@@ -28,64 +26,29 @@ pub enum Kind {
     Cut,
     Crash,
     Device(Act),
-    Unknown,
-}
-
-// A step that names a device alone, by its name.
-fn kind_of_act(name: &[u8]) -> Kind
-    ensures { result ≡ kind_of_act name.now }
-{
-    if same(name, b"push") {
-        return Kind::Device(Act::Push);
-    }
-    if same(name, b"send") {
-        return Kind::Device(Act::Send);
-    }
-    if same(name, b"confirmed") {
-        return Kind::Device(Act::Confirmed);
-    }
-    if same(name, b"ask") {
-        return Kind::Device(Act::Ask);
-    }
-    if same(name, b"drop") {
-        return Kind::Device(Act::Drop);
-    }
-    if same(name, b"receive") {
-        return Kind::Device(Act::Receive);
-    }
-    if same(name, b"pull") {
-        return Kind::Device(Act::Pull);
-    }
-    if same(name, b"accept") {
-        return Kind::Device(Act::Accept);
-    }
-    if same(name, b"serverdrop") {
-        return Kind::Device(Act::Serverdrop);
-    }
-    Kind::Unknown
 }
 
 // The step that a first field names.
-pub fn kind_of(name: &[u8]) -> Kind
+#[tactic(auto, unfolding(crate::specs::Names::kind_of, crate::specs::Names::act_of))]
+pub fn kind_of(name: &[u8]) -> Option<Kind>
     ensures { result ≡ kind_of name.now }
 {
-    if same(name, b"start") {
-        return Kind::Start;
+    match name {
+        b"start" => Some(Kind::Start),
+        b"update" => Some(Kind::Update),
+        b"read" => Some(Kind::Read),
+        b"batch" => Some(Kind::Batch),
+        b"cut" => Some(Kind::Cut),
+        b"crash" => Some(Kind::Crash),
+        b"push" => Some(Kind::Device(Act::Push)),
+        b"send" => Some(Kind::Device(Act::Send)),
+        b"confirmed" => Some(Kind::Device(Act::Confirmed)),
+        b"ask" => Some(Kind::Device(Act::Ask)),
+        b"drop" => Some(Kind::Device(Act::Drop)),
+        b"receive" => Some(Kind::Device(Act::Receive)),
+        b"pull" => Some(Kind::Device(Act::Pull)),
+        b"accept" => Some(Kind::Device(Act::Accept)),
+        b"serverdrop" => Some(Kind::Device(Act::Serverdrop)),
+        _ => None,
     }
-    if same(name, b"update") {
-        return Kind::Update;
-    }
-    if same(name, b"read") {
-        return Kind::Read;
-    }
-    if same(name, b"batch") {
-        return Kind::Batch;
-    }
-    if same(name, b"cut") {
-        return Kind::Cut;
-    }
-    if same(name, b"crash") {
-        return Kind::Crash;
-    }
-    kind_of_act(name)
 }

@@ -5,50 +5,38 @@ ghost use Rattle.std.specs.Float.{binary64};
 ghost use Rattle.wording.specs.Values.{number_at, signed_at, measure_at, update_name_of, update_field_at};
 
 use cells::{Cell, Update};
-use text::field::{field, same};
-use text::number::{Signed, Whole, bits, decimal, signed_decimal};
-
-// An update, or the answer that the fields are none.
-#[derive(Clone, Copy)]
-pub enum MaybeUpdate {
-    Is(Update),
-    Not,
-}
+use text::field::field;
+use text::number::{bits, decimal, signed_decimal};
 
 // The name by which an update says what it does.
-#[derive(Clone, Copy)]
+#[derive(Clone, Copy, Debug, PartialEq, Eq)]
 pub enum UpdateName {
     Blank,
     Count,
     Measure,
     Add,
-    Unknown,
 }
 
 // Field k as a number without a minus, within 64 signed bits.
-pub fn number_at(line: &[u8], k: usize) -> Whole
+#[tactic(auto, unfolding(crate::specs::Values::number_at))]
+pub fn number_at(line: &[u8], k: usize) -> Option<u64>
     ensures { result ≡ number_at k line.now }
 {
-    decimal(field(line, k), 9223372036854775807)
+    decimal(field(line, k), i64::MAX as u64)
 }
 
 // The name that a field is.
-pub fn update_name_of(f: &[u8]) -> UpdateName
+#[tactic(auto, unfolding(crate::specs::Values::update_name_of))]
+pub fn update_name_of(f: &[u8]) -> Option<UpdateName>
     ensures { result ≡ update_name_of f.now }
 {
-    if same(f, b"blank") {
-        return UpdateName::Blank;
+    match f {
+        b"blank" => Some(UpdateName::Blank),
+        b"count" => Some(UpdateName::Count),
+        b"measure" => Some(UpdateName::Measure),
+        b"add" => Some(UpdateName::Add),
+        _ => None,
     }
-    if same(f, b"count") {
-        return UpdateName::Count;
-    }
-    if same(f, b"measure") {
-        return UpdateName::Measure;
-    }
-    if same(f, b"add") {
-        return UpdateName::Add;
-    }
-    UpdateName::Unknown
 }
 
 // The measured number of a pattern. Every pattern of a NaN gives the one NaN.
@@ -61,66 +49,32 @@ fn float_of(n: u64) -> f64
     f64::from_bits(n)
 }
 
-fn set_count(line: &[u8]) -> MaybeUpdate
-    ensures { result ≡ signed_at MaybeUpdate.Not (λ n. MaybeUpdate.Is (Update.Set (Cell.Count n))) line.now }
+// Field 4 as a signed number.
+#[tactic(auto, unfolding(crate::specs::Values::signed_at))]
+fn signed_at(line: &[u8]) -> Option<i64>
+    ensures { result ≡ signed_at line.now }
 {
-    match signed_decimal(field(line, 4)) {
-        Signed::Is(n) => MaybeUpdate::Is(Update::Set(Cell::Count(n))),
-        Signed::Not => MaybeUpdate::Not,
-    }
+    signed_decimal(field(line, 4))
 }
 
-fn add_number(line: &[u8]) -> MaybeUpdate
-    ensures { result ≡ signed_at MaybeUpdate.Not (λ n. MaybeUpdate.Is (Update.Add n)) line.now }
-{
-    match signed_decimal(field(line, 4)) {
-        Signed::Is(n) => MaybeUpdate::Is(Update::Add(n)),
-        Signed::Not => MaybeUpdate::Not,
-    }
-}
-
-fn set_measure(line: &[u8]) -> MaybeUpdate
+// Field 4 as a measured number.
+#[tactic(auto, unfolding(crate::specs::Values::measure_at))]
+fn measure_at(line: &[u8]) -> Option<f64>
     ensures { result ≡ measure_at line.now }
 {
-    match bits(field(line, 4)) {
-        Whole::Is(n) => MaybeUpdate::Is(Update::Set(Cell::Measure(float_of(n)))),
-        Whole::Not => MaybeUpdate::Not,
-    }
+    Some(float_of(bits(field(line, 4))?))
 }
 
 // The update that fields 3 and 4 are, of a line with n commas.
-pub fn update_at(line: &[u8], n: usize) -> MaybeUpdate
+#[tactic(auto, unfolding(crate::specs::Values::update_field_at, crate::specs::Values::update_by))]
+pub fn update_at(line: &[u8], n: usize) -> Option<Update>
     ensures { result ≡ update_field_at n line.now }
 {
-    match update_name_of(field(line, 3)) {
-        UpdateName::Blank => {
-            if n == 3 {
-                MaybeUpdate::Is(Update::Set(Cell::Blank))
-            } else {
-                MaybeUpdate::Not
-            }
-        }
-        UpdateName::Count => {
-            if n == 4 {
-                set_count(line)
-            } else {
-                MaybeUpdate::Not
-            }
-        }
-        UpdateName::Measure => {
-            if n == 4 {
-                set_measure(line)
-            } else {
-                MaybeUpdate::Not
-            }
-        }
-        UpdateName::Add => {
-            if n == 4 {
-                add_number(line)
-            } else {
-                MaybeUpdate::Not
-            }
-        }
-        UpdateName::Unknown => MaybeUpdate::Not,
+    match (update_name_of(field(line, 3))?, n) {
+        (UpdateName::Blank, 3) => Some(Update::Set(Cell::Blank)),
+        (UpdateName::Count, 4) => Some(Update::Set(Cell::Count(signed_at(line)?))),
+        (UpdateName::Measure, 4) => Some(Update::Set(Cell::Measure(measure_at(line)?))),
+        (UpdateName::Add, 4) => Some(Update::Add(signed_at(line)?)),
+        _ => None,
     }
 }

@@ -11,11 +11,9 @@ use lib.ListN.{length, get_or, set, length-set}
 use lib.Seq.{get_or-set_same, get_or-set_other}
 use lib.Dec.{ltb}
 use borrow.Author.Tests.{ltb-true, ltb-false}
-use Rattle.words.specs.Place.{Place, Put, Filled, Kept, Apart, Numbers, cell_at, cell_ok, change_at, change_ok, cell_place, change_place}
-use Rattle.cells.specs.Stored.{CellFits, ChangeFits, cell_finite, change_finite, cell_of, cell_kind, cell_payload, cell_words_ok, change_from, change_kind, change_payload, change_words_ok}
-use Rattle.cells.proofs.StoredForm.{cell_back, cell_words, change_back, change_words, words_cell_fits, words_change_fits}
-use Rattle.cells.specs.declared.Cell.{Cell}
-use Rattle.cells.specs.declared.Change.{Change}
+use Rattle.words.specs.Place.{Place, Put, Filled, Kept, Apart, Numbers, words_at, place, cell_at, cell_ok, change_at, change_ok, cell_place, change_place}
+use Rattle.cells.specs.Stored.{cell_finite, change_finite, cell_of, cell_words_ok, change_from, change_words_ok}
+use Rattle.cells.proofs.StoredForm.{words_cell_fits, words_change_fits}
 
 pub lt_or_ge : (a b : ℕ) → (a < b) ⊎ (b ≤ a)
 lt_or_ge a b = go (ltb a b) refl
@@ -43,19 +41,18 @@ pub record Local (P : Place) : Type 0 where
   pub value_same : (xs ys : List ℕ) (o : ℕ) → Same xs ys o P.width → P.value_at ys o ≡ P.value_at xs o
   pub valid_same : (xs ys : List ℕ) (o : ℕ) → Same xs ys o P.width → P.valid_at ys o ≡ P.valid_at xs o
 
-pub cell_local : Local cell_place
-unfolding cell_at cell_ok
-cell_local = record {
-  value_same = λ xs ys o S. (λ i. cell_of (S o (omega arith) (omega arith) i) (S (o + 1) (omega arith) (omega arith) i));
-  valid_same = λ xs ys o S. (λ i. cell_words_ok (S o (omega arith) (omega arith) i) (S (o + 1) (omega arith) (omega arith) i));
+pub place_local : {A : Type 0} (read : ℕ → ℕ → A) (ok : ℕ → ℕ → Bool) → Local (place read ok)
+unfolding words_at
+place_local read ok = record {
+  value_same = λ xs ys o S. (λ i. read (S o (omega arith) (omega arith) i) (S (o + 1) (omega arith) (omega arith) i));
+  valid_same = λ xs ys o S. (λ i. ok (S o (omega arith) (omega arith) i) (S (o + 1) (omega arith) (omega arith) i));
 }
 
-pub change_local : Local change_place
-unfolding change_at change_ok
-change_local = record {
-  value_same = λ xs ys o S. (λ i. change_from (S o (omega arith) (omega arith) i) (S (o + 1) (omega arith) (omega arith) i));
-  valid_same = λ xs ys o S. (λ i. change_words_ok (S o (omega arith) (omega arith) i) (S (o + 1) (omega arith) (omega arith) i));
-}
+abbrev pub cell_local : Local cell_place
+cell_local = place_local cell_of cell_words_ok
+
+abbrev pub change_local : Local change_place
+change_local = place_local change_from change_words_ok
 
 -- Two words stored one after the other.
 module _ (xs : List ℕ) (o a b : ℕ) (fits : o + 2 ≤ length xs) where
@@ -68,25 +65,14 @@ module _ (xs : List ℕ) (o a b : ℕ) (fits : o + 2 ≤ length xs) where
   pub two_kept : Kept xs (set (set xs o a) (o + 1) b) o 2
   two_kept i out = set_kept (set xs o a) (o + 1) b i (λ q. out (omega arith) (omega arith)) ∙ set_kept xs o a i (λ q. out (omega arith) (omega arith))
 
-pub put_cell_is : (xs : List ℕ) (o a b : ℕ) (c : Cell) → o + 2 ≤ length xs → CellFits c → cell_finite c ≡ true → a ≡ cell_kind c → b ≡ cell_payload c → Put cell_place xs (set (set xs o a) (o + 1) b) o c
-unfolding cell_at cell_ok
-put_cell_is xs o a b c fits F e p q =
-    let u = first_word xs o a b fits ∙ p in
-    let v = second_word xs o a b fits ∙ q in
+pub put_is : {A : Type 0} (read : ℕ → ℕ → A) (ok : ℕ → ℕ → Bool) (xs : List ℕ) (o a b : ℕ) (v : A) → o + 2 ≤ length xs → read a b ≡ v → ok a b ≡ true → Put (place read ok) xs (set (set xs o a) (o + 1) b) o v
+unfolding words_at
+put_is read ok xs o a b v fits e f =
+    let p = first_word xs o a b fits in
+    let q = second_word xs o a b fits in
     record {
-      is = (λ i. cell_of (u i) (v i)) ∙ cell_back c F;
-      valid = (λ i. cell_words_ok (u i) (v i)) ∙ cell_words c F e;
-      kept = two_kept xs o a b fits;
-    }
-
-pub put_change_is : (xs : List ℕ) (o a b : ℕ) (d : Change) → o + 2 ≤ length xs → ChangeFits d → change_finite d ≡ true → a ≡ change_kind d → b ≡ change_payload d → Put change_place xs (set (set xs o a) (o + 1) b) o d
-unfolding change_at change_ok
-put_change_is xs o a b d fits F e p q =
-    let u = first_word xs o a b fits ∙ p in
-    let v = second_word xs o a b fits ∙ q in
-    record {
-      is = (λ i. change_from (u i) (v i)) ∙ change_back d F;
-      valid = (λ i. change_words_ok (u i) (v i)) ∙ change_words d F e;
+      is = (λ i. read (p i) (q i)) ∙ e;
+      valid = (λ i. ok (p i) (q i)) ∙ f;
       kept = two_kept xs o a b fits;
     }
 
@@ -138,9 +124,9 @@ numbers_more xs ys o i v f F l e = record {
 
 -- The value of valid words is finite.
 pub cell_is_finite : (xs : List ℕ) (o : ℕ) → cell_ok xs o ≡ true → cell_finite (cell_at xs o) ≡ true
-unfolding cell_at cell_ok
+unfolding words_at
 cell_is_finite xs o e = (words_cell_fits (get_or xs o 0) (get_or xs (o + 1) 0) e).1
 
 pub change_is_finite : (xs : List ℕ) (o : ℕ) → change_ok xs o ≡ true → change_finite (change_at xs o) ≡ true
-unfolding change_at change_ok
+unfolding words_at
 change_is_finite xs o e = (words_change_fits (get_or xs o 0) (get_or xs (o + 1) 0) e).1

@@ -15,12 +15,15 @@ MOST_PUSHES = 1000000
 abbrev pub QUEUE : ℕ
 QUEUE = 8
 
--- Words of a cell and of a change.
+-- Words of a place, which holds a cell or a change.
+abbrev pub PLACE : ℕ
+PLACE = 2
+
 abbrev pub CELL : ℕ
-CELL = 2
+CELL = PLACE
 
 abbrev pub CHANGE : ℕ
-CHANGE = 2
+CHANGE = PLACE
 
 -- A round: its number, then a change for each cell.
 abbrev pub ROUND_CHANGES : ℕ

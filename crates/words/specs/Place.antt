@@ -1,23 +1,27 @@
 -- Document 01's cell and change as they lie in the lent table, and what it means to store one. Assumes nothing.
 use Rattle.std.specs.Prelude.{◌≡◌, Bool, true, false, List, ℕ, zero, suc, ◌+◌, ◌*◌, ◌≤◌, ◌<◌, length, get_or}
-use Rattle.words.specs.Layout.{CELL, CHANGE}
+use Rattle.words.specs.Layout.{PLACE}
 use Rattle.cells.specs.Stored.{cell_of, cell_words_ok, change_from, change_words_ok}
 use Rattle.cells.specs.declared.Cell.{Cell}
 use Rattle.cells.specs.declared.Change.{Change}
 
--- The cell in the words from o on, and whether these are a cell's words.
-unfoldable pub cell_at : List ℕ → ℕ → Cell
-cell_at xs o = cell_of (get_or xs o 0) (get_or xs (o + 1) 0)
+-- What the two words from o on are read as.
+unfoldable pub words_at : {A : Type 0} → (ℕ → ℕ → A) → List ℕ → ℕ → A
+words_at f xs o = f (get_or xs o 0) (get_or xs (o + 1) 0)
 
-unfoldable pub cell_ok : List ℕ → ℕ → Bool
-cell_ok xs o = cell_words_ok (get_or xs o 0) (get_or xs (o + 1) 0)
+-- The cell in the words from o on, and whether these are a cell's words.
+abbrev pub cell_at : List ℕ → ℕ → Cell
+cell_at = words_at cell_of
+
+abbrev pub cell_ok : List ℕ → ℕ → Bool
+cell_ok = words_at cell_words_ok
 
 -- The change in the words from o on, and whether these are a change's words.
-unfoldable pub change_at : List ℕ → ℕ → Change
-change_at xs o = change_from (get_or xs o 0) (get_or xs (o + 1) 0)
+abbrev pub change_at : List ℕ → ℕ → Change
+change_at = words_at change_from
 
-unfoldable pub change_ok : List ℕ → ℕ → Bool
-change_ok xs o = change_words_ok (get_or xs o 0) (get_or xs (o + 1) 0)
+abbrev pub change_ok : List ℕ → ℕ → Bool
+change_ok = words_at change_words_ok
 
 -- A kind of place: how many words it takes, its value, and whether its words are valid.
 pub record Place : Type 1 where
@@ -26,11 +30,15 @@ pub record Place : Type 1 where
   pub value_at : List ℕ → ℕ → Holds
   pub valid_at : List ℕ → ℕ → Bool
 
+-- The place of what is read from two words, a kind and a payload: a cell's and a change's.
+abbrev pub place : {A : Type 0} → (ℕ → ℕ → A) → (ℕ → ℕ → Bool) → Place
+place {A} read ok = record { Holds = A; width = PLACE; value_at = words_at read; valid_at = words_at ok }
+
 abbrev pub cell_place : Place
-cell_place = record { Holds = Cell; width = CELL; value_at = cell_at; valid_at = cell_ok }
+cell_place = place cell_of cell_words_ok
 
 abbrev pub change_place : Place
-change_place = record { Holds = Change; width = CHANGE; value_at = change_at; valid_at = change_ok }
+change_place = place change_from change_words_ok
 
 -- i is none of the n words from o on.
 abbrev pub Out : ℕ → ℕ → ℕ → Type 0

@@ -9,10 +9,12 @@ pub const MOST_PUSHES: u64 = 1000000;
 
 pub const QUEUE: usize = 8;
 
-// Words of a cell and of a change.
-pub const CELL: usize = 2;
+// Words of a place, which holds a cell or a change.
+pub const PLACE: usize = 2;
 
-pub const CHANGE: usize = 2;
+pub const CELL: usize = PLACE;
+
+pub const CHANGE: usize = PLACE;
 
 // A round: its number, then a change for each cell.
 pub const ROUND_CHANGES: usize = 1;

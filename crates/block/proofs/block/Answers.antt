@@ -1,18 +1,16 @@
--- `block::block` meets its contract: each turn of the walk is that of Standing.antt.
-use Rattle.block.proofs.Standing.{stands_first, table, there, within, stands_next, left_less, stands_last}
+-- `block::block` meets its contract: no table, no such device, the first bad update, or all of them joined.
+use Rattle.std.proofs.lemmas.Result.{err_from_is_err_and}
+use Rattle.block.proofs.Joining.{not_known_so, refused_so}
 use Rattle.block.proofs.block.Goals as goal
 
-pub loop-w-init : goal.loop-w-init
-loop-w-init c = stands_first _ _ _ _ _ c.begin-w.ensures.0 c.begin-w.ensures.1
+pub returns-in_err-extent : goal.returns-in_err-extent
+returns-in_err-extent c =
+    let p = err_from_is_err_and c.from_residual.result c.from_residual.ensures.1 in
+    rw (p.1, p.2) (not_known_so _ _ _ _ c.in_err-extent.ensures)
 
-pub turn-w-requires : goal.turn-w-requires
-turn-w-requires c = let S = c.loop-w.invariant in let on = c.loop-w-test.true in (table _ _ _ _ _ S on, there _ _ _ _ _ S on, within _ _ _ _ _ S on)
-
-pub loop-w-smaller : goal.loop-w-smaller
-loop-w-smaller c = left_less _ _ _ _ _ c.loop-w.invariant c.loop-w-test.true _ _ c.turn-w.ensures
-
-pub loop-w-preserved : goal.loop-w-preserved
-loop-w-preserved c = stands_next _ _ _ _ _ c.loop-w.invariant c.loop-w-test.true _ _ c.turn-w.ensures
-
-pub returns : goal.returns
-returns c = rw c.told.ensures (stands_last _ _ _ _ _ c.loop-w.invariant c.loop-w-test.false)
+pub returns-in_err-look_over : goal.returns-in_err-look_over
+returns-in_err-look_over c =
+    let r = c.from_residual-in_err-look_over in
+    let p = err_from_is_err_and r.result r.ensures.1 in
+    let R = c.in_ok-extent.ensures.0 in
+    rw (p.1, p.2) (refused_so _ c.args.d _ R.table (rw R.devices_are at c.in_ok-extent.ensures.1) c.in_err-look_over.field-0.0 (rw R.cells_are at c.in_err-look_over.ensures))

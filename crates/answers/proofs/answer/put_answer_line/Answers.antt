@@ -5,7 +5,7 @@ use Rattle.answers.proofs.answer.put_answer_line.Goals as goal
 
 pub returns : goal.returns
 unfolding answer_line
-returns c =
+returns g c =
     let p = c.put_answer-m.ensures in
     record {
       puts = put_then _ _ _ _ _ _ _ _ p.puts c.put.ensures;

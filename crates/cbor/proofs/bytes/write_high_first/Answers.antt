@@ -7,12 +7,9 @@ use Rattle.cbor.proofs.bytes.write_high_first.Goals as goal
 
 pub loop-i-preserved : goal.loop-i-preserved
 loop-i-preserved c =
-    let v = c.loop-i.invariant in (
-      omega arith,
-      simp length-set v.1,
-      put_high_first c.loop-i.out c.args.at c.loop-i.i c.loop-i.y (omega arith) (omega arith) ∙ v.2,
-    )
+    let v = c.loop-i.invariant in
+    (simp length-set v.0, put_high_first c.loop-i.out c.args.at c.loop-i.i c.loop-i.y (omega arith) (omega arith) ∙ v.1)
 
 pub returns : goal.returns
 returns c =
-    sym (put_high_first_done c.loop-i.out c.args.at c.loop-i.i c.loop-i.y (omega arith)) ∙ c.loop-i.invariant.2
+    sym (put_high_first_done c.loop-i.out c.args.at c.loop-i.i c.loop-i.y (omega arith)) ∙ c.loop-i.invariant.1

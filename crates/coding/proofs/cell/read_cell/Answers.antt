@@ -1,28 +1,21 @@
 -- `coding::cell::read_cell` meets its contract: the token that is there tells.
-use mathlib.Core.Path.{refl, subst}
+use mathlib.Core.Path.{refl}
 use Rattle.cbor.proofs.Arrays.{none_here, none_there, one_there}
-use Rattle.cbor.specs.Token.{TokenIs}
-use Rattle.coding.specs.Item.{CellAllowed, MeantIs, cell_bytes, cell_token}
+use Rattle.coding.specs.Item.{CellAllowed, cell_bytes, cell_token}
 use Rattle.coding.proofs.Meaning.{cell_fits}
 use Rattle.coding.proofs.cell.read_cell.Goals as goal
 
-pub cell_meant-requires : goal.cell_meant-requires
-cell_meant-requires c = (subst (TokenIs _ _) c.in-Found.is c.read_token.ensures).0
+pub returns-in_err-t : goal.returns-in_err-t
+returns-in_err-t c =
+    rw c.from_residual.ensures
+    (none_here cell_bytes CellAllowed cell_token (λ _. refl) cell_fits c.args.s.now c.args.at c.in_err-t.ensures)
 
-pub returns-in-Means : goal.returns-in-Means
-returns-in-Means c =
-    let h = subst (TokenIs _ _) c.in-Found.is c.read_token.ensures in
-    let k = subst (MeantIs _) c.in-Means.is c.cell_meant.ensures in
-    one_there cell_bytes CellAllowed cell_token (λ _. refl) cell_fits _ _ _ _ _ h k.0 k.1
+pub returns-in_err-c : goal.returns-in_err-c
+returns-in_err-c c =
+    rw c.from_residual-in_err-c.ensures
+    (none_there cell_bytes CellAllowed cell_token (λ _. refl) cell_fits c.args.s.now c.args.at c.in_ok-t.t c.in_ok-t.next c.in_ok-t.ensures c.in_err-c.ensures)
 
-pub returns-in-NoCell : goal.returns-in-NoCell
-returns-in-NoCell c =
-    let h = subst (TokenIs _ _) c.in-Found.is c.read_token.ensures in
-    let k = subst (MeantIs _) c.in-NoCell.is c.cell_meant.ensures in
-    none_there cell_bytes CellAllowed cell_token (λ _. refl) cell_fits _ _ _ _ h k
-
-pub returns-in-Absent : goal.returns-in-Absent
-returns-in-Absent c =
-    let g = c.args in
-    none_here cell_bytes CellAllowed cell_token (λ _. refl) cell_fits g.s.now g.at
-    (subst (TokenIs g.s.now g.at) c.in-Absent.is c.read_token.ensures)
+pub returns : goal.returns
+returns c =
+    let k = c.in_ok-c.ensures in
+    one_there cell_bytes CellAllowed cell_token (λ _. refl) cell_fits c.args.s.now c.args.at c.in_ok-t.t c.in_ok-t.next c.in_ok-c.c c.in_ok-t.ensures k.0 k.1

@@ -5,22 +5,22 @@ use Rattle.delivery.proofs.deliver.join_to.Goals as goal
 pub take_numbers_from-requires : goal.take_numbers_from-requires
 take_numbers_from-requires c = numbers_fit _ _ _ _ _ c.requires.storable
 
-pub apply_changes_from-requires : goal.apply_changes_from-requires
-apply_changes_from-requires c =
+pub change_from-requires : goal.change_from-requires
+change_from-requires c =
     let n = c.take_numbers_from in
     apply_across _ _ _ _ _ c.requires _ n.auto.t n.ensures c.if-kind-eq-PREFIX.true
 
 pub returns-then-kind-eq-PREFIX : goal.returns-then-kind-eq-PREFIX
 returns-then-kind-eq-PREFIX c =
     let n = c.take_numbers_from in
-    prefix_joined_to _ _ _ _ _ c.requires _ n.auto.t n.ensures _ c.if-kind-eq-PREFIX.true c.apply_changes_from.ensures
+    prefix_joined_to _ _ _ _ _ c.requires _ n.auto.t n.ensures _ c.if-kind-eq-PREFIX.true c.change_from.ensures
 
-pub join_changes_from-requires : goal.join_changes_from-requires
-join_changes_from-requires c =
+pub change_from-requires-2 : goal.change_from-requires-2
+change_from-requires-2 c =
     let n = c.take_numbers_from in
     join_across _ _ _ _ _ c.requires _ n.auto.t n.ensures c.if-kind-eq-PREFIX.false
 
 pub returns : goal.returns
 returns c =
     let n = c.take_numbers_from in
-    segment_joined_to _ _ _ _ _ c.requires _ n.auto.t n.ensures _ c.if-kind-eq-PREFIX.false c.join_changes_from.ensures
+    segment_joined_to _ _ _ _ _ c.requires _ n.auto.t n.ensures _ c.if-kind-eq-PREFIX.false c.change_from-2.ensures

@@ -9,13 +9,10 @@ pub returns-then-r-eq0 : goal.returns-then-r-eq0
 returns-then-r-eq0 c = pull_nothing _ _ _ c.requires.0 _ c.if-r-eq0.true
 
 pub take_in-requires : goal.take_in-requires
-take_in-requires c = let R = c.requires.0 in (R.valid.size, R.few_cells, R.valid.known, R.valid.received (not_zero _ c.if-r-eq0.false))
+take_in-requires c = let R = c.requires.0 in (R.valid.size, R.valid.known, R.valid.received (not_zero _ c.if-r-eq0.false))
 
 pub forget-requires : goal.forget-requires
 forget-requires c = has_pending _ _ _ c.requires.0 c.args.d (not_zero _ c.if-r-eq0.false) _ (omega (arith, c.requires.0.valid.size, c.take_in.auto.r)) c.take_in.ensures
-
-pub shape_of-r : goal.shape_of-r
-shape_of-r c = omega (arith, c.take_in.auto.r, simp length-set at c.forget.auto.r)
 
 pub returns : goal.returns
 returns c = pull_done _ _ _ c.requires.0 _ (not_zero _ c.if-r-eq0.false) _ (omega (arith, c.requires.0.valid.size, c.take_in.auto.r)) c.take_in.ensures c.requires.1 _ (omega (arith, c.requires.0.valid.size, c.take_in.auto.r, simp length-set at c.forget.auto.r)) c.forget.ensures

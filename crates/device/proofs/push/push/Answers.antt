@@ -1,6 +1,5 @@
 -- `device::push::push` meets its contract: what it makes of the record is the law's.
 use Rattle.device.proofs.Pushes.{push_refused, push_done}
-use lib.ListN.{length-set}
 use Rattle.record.proofs.Conditions.{is_singles}
 use native.Mathlib.Omega.{arith}
 use Rattle.device.proofs.push.push.Goals as goal
@@ -11,11 +10,5 @@ returns-then-last-ge-MOST_PUSHES c = push_refused _ _ _ c.requires c.if-last-ge-
 pub overflow_add-r-2 : goal.overflow_add-r-2
 overflow_add-r-2 c = let R = c.requires in let S = is_singles _ _ _ R.valid.size R in omega (arith, c.if-last-ge-MOST_PUSHES.false)
 
-pub bounds-r-5-2 : goal.bounds-r-5-2
-bounds-r-5-2 c = simp length-set (omega arith)
-
-pub shape_of-r : goal.shape_of-r
-shape_of-r c = simp length-set (omega arith)
-
 pub returns : goal.returns
-returns c = push_done _ _ _ _ _ c.requires c.if-last-ge-MOST_PUSHES.false c.join_changes.ensures c.clear_changes.ensures (omega arith)
+returns c = push_done _ _ _ _ _ c.requires c.if-last-ge-MOST_PUSHES.false c.change.ensures c.fill.ensures (omega arith)

@@ -5,7 +5,7 @@ use Rattle.device.proofs.Segments.{buffer_empty, joinable, buffer_filled}
 use Rattle.device.proofs.receive.buffer_first.Goals as goal
 
 pub copy_item-requires : goal.copy_item-requires
-copy_item-requires c = let p = c.requires in (first_beside _ _ _ p.0 p.1, p.0.few_devices, p.0.few_cells)
+copy_item-requires c = let p = c.requires in first_beside _ _ _ p.0 p.1
 
 pub returns-then-r-eq0 : goal.returns-then-r-eq0
 returns-then-r-eq0 c = let p = c.requires in buffer_empty _ _ _ p.0 p.1 p.2 _ c.if-r-eq0.true c.copy_item.ensures

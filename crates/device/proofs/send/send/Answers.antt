@@ -20,7 +20,7 @@ pub add_round-requires-2 : goal.add_round-requires-2
 add_round-requires-2 c = second_addable _ _ _ c.requires c.if-r.false _ (omega (arith, c.requires.valid.size, c.add_round.auto.r)) c.add_round.ensures
 
 pub shape_of-r : goal.shape_of-r
-shape_of-r c = simp length-set (omega (arith, c.requires.valid.size, c.add_round.auto.r, c.add_round-2.auto.r, c.clear_changes.auto.t))
+shape_of-r c = simp length-set (omega (arith, c.requires.valid.size, c.add_round.auto.r, c.add_round-2.auto.r, c.fill.auto.t))
 
 pub returns : goal.returns
-returns c = send_done _ _ _ c.requires c.if-r.false _ (omega (arith, c.requires.valid.size, c.add_round.auto.r)) c.add_round.ensures _ _ c.add_round-2.ensures c.clear_changes.ensures (omega (arith, c.requires.valid.size, c.add_round.auto.r, c.add_round-2.auto.r, c.clear_changes.auto.t)) c.if-r-ne-ESTABLISHED.false c.if-r-eq0.false
+returns c = send_done _ _ _ c.requires c.if-r.false _ (omega (arith, c.requires.valid.size, c.add_round.auto.r)) c.add_round.ensures _ _ c.add_round-2.ensures c.fill.ensures (omega (arith, c.requires.valid.size, c.add_round.auto.r, c.add_round-2.auto.r, c.fill.auto.t)) c.if-r-ne-ESTABLISHED.false c.if-r-eq0.false

@@ -1,21 +1,19 @@
--- `devices::calls::ask_device` meets its contract: no table, no such device, or the question.
-use native.Mathlib.Omega.{arith}
-use Rattle.table.proofs.Lifted.{no_table}
-use Rattle.devices.proofs.Steps.{no_device_asked}
+-- `devices::calls::ask_device` meets its contract: no table, no such device, or what the record tells.
+use mathlib.Core.Path.{refl}
+use Rattle.std.proofs.lemmas.Result.{err_from_is_err_and}
+use Rattle.looking.specs.Look.{question_of}
+use Rattle.table.proofs.Here.{record_here, told_here}
+use Rattle.table.proofs.Lifted.{not_known}
+use Rattle.devices.proofs.Steps.{asked_is}
 use Rattle.devices.proofs.calls.ask_device.Goals as goal
 
-pub returns-then-not-is_table : goal.returns-then-not-is_table
-returns-then-not-is_table c = no_table _ _ (c.is_table.ensures.never (c.if-not-is_table.true))
+pub returns-in_err-extent : goal.returns-in_err-extent
+returns-in_err-extent c =
+    let p = err_from_is_err_and c.from_residual.result c.from_residual.ensures.1 in
+    rw (p.1, p.2) (not_known _ (question_of _ c.args.q) _ _ (λ _. asked_is _ _ refl c.args.d c.args.q) _ c.in_err-extent.ensures)
 
-pub bounds-t-0 : goal.bounds-t-0
-bounds-t-0 c =
-    let T = (c.is_table.ensures.sure (c.if-not-is_table.false)) in
-    let ok = T.valid in
-    let z = ok.sizes in
-    omega arith
+pub look-requires : goal.look-requires
+look-requires c = let k = c.in_ok-extent.ensures in record_here _ _ _ c.args.d k.0 k.1
 
-pub returns-then-d-t : goal.returns-then-d-t
-returns-then-d-t c = no_device_asked _ _ c.args.q (c.is_table.ensures.sure (c.if-not-is_table.false)) c.if-d-t.true
-
-pub ask_known-requires : goal.ask_known-requires
-ask_known-requires c = ((c.is_table.ensures.sure (c.if-not-is_table.false)), c.if-d-t.false)
+pub returns : goal.returns
+returns c = let k = c.in_ok-extent.ensures in told_here _ _ _ c.args.d k.0 k.1 _ (question_of c.in_ok-extent.extent.cells c.args.q) (asked_is _ _ k.0.cells_are c.args.d c.args.q) _ c.look.ensures

@@ -1,21 +1,12 @@
 -- `devices::calls::on_device` meets its contract: no table, no such device, or the step.
-use native.Mathlib.Omega.{arith}
-use Rattle.table.proofs.Lifted.{no_table}
-use Rattle.devices.proofs.Steps.{no_device_named}
+use mathlib.Core.Path.{refl}
+use Rattle.std.proofs.lemmas.Result.{err_from_is_err_and}
+use Rattle.device.specs.Named.{step_of}
+use Rattle.table.proofs.Lifted.{not_known}
+use Rattle.devices.proofs.Steps.{named_is}
 use Rattle.devices.proofs.calls.on_device.Goals as goal
 
-pub returns-then-not-is_table : goal.returns-then-not-is_table
-returns-then-not-is_table c = no_table _ _ (c.is_table.ensures.never (c.if-not-is_table.true))
-
-pub bounds-t-0 : goal.bounds-t-0
-bounds-t-0 c =
-    let T = (c.is_table.ensures.sure (c.if-not-is_table.false)) in
-    let ok = T.valid in
-    let z = ok.sizes in
-    omega arith
-
-pub returns-then-d-t : goal.returns-then-d-t
-returns-then-d-t c = no_device_named _ _ c.args.operation (c.is_table.ensures.sure (c.if-not-is_table.false)) c.if-d-t.true
-
-pub on_known-requires : goal.on_known-requires
-on_known-requires c = ((c.is_table.ensures.sure (c.if-not-is_table.false)), c.if-d-t.false)
+pub returns-in_err-extent_with : goal.returns-in_err-extent_with
+returns-in_err-extent_with c =
+    let p = err_from_is_err_and c.from_residual.result c.from_residual.ensures.1 in
+    rw (p.1, p.2) (not_known _ (step_of _ c.args.d c.args.operation) _ _ (λ _. named_is _ _ refl c.args.d c.args.operation) _ c.in_err-extent_with.ensures)

@@ -1,20 +1,14 @@
 -- `devices::calls::on_known` meets its contract: a step on the record is the step on the table.
-use mathlib.Core.Path.{◌∙◌}
-use native.Mathlib.Omega.{arith}
-use Rattle.table.proofs.Part.{part_is, part_length, replaced}
-use Rattle.table.proofs.Tables.{record_of}
-use Rattle.devices.proofs.Steps.{lifted_named}
+use mathlib.Core.Path.{refl}
+use Rattle.device.specs.Named.{step_of}
+use Rattle.table.proofs.Here.{record_here, stepped_here}
+use Rattle.devices.proofs.Steps.{named_is}
 use Rattle.devices.proofs.calls.on_known.Goals as goal
 
 pub on_record-requires : goal.on_record-requires
-on_record-requires c = (rw (part_is _ _) (record_of _ c.requires.0 _ c.requires.1), c.requires.1)
+on_record-requires c = (record_here _ _ _ c.args.d (record { table = c.requires.0; devices_are = refl; cells_are = refl }) c.requires.1, c.requires.1)
 
 pub returns : goal.returns
 returns c =
-    let T = c.requires.0 in
-    let w = c.on_record in
-    let ok = T.valid in
-    let z = ok.sizes in
-    let h = c.requires.1 in
-    let size = w.auto.r ∙ part_length _ c.args.d (omega arith) in
-    lifted_named _ c.args.d c.args.operation T h _ _ _ (replaced _ _ c.args.d (omega arith) size) (rw (part_is _ _) at w.ensures)
+    stepped_here _ _ _ c.args.d (record { table = c.requires.0; devices_are = refl; cells_are = refl }) c.requires.1 _ (step_of _ c.args.d c.args.operation) (named_is _ _ refl c.args.d c.args.operation)
+    _ _ c.on_record.auto.r c.on_record.ensures

@@ -1,29 +1,16 @@
 -- `image::opening::open_image` meets its contract: what the bytes decode to makes the table.
-use mathlib.Core.Path.{subst}
-use Rattle.image.specs.Read.{DecodedIs}
-use Rattle.image.proofs.Opens.{image_sizes, opened_image, opened_none}
 use native.Mathlib.Omega.{arith}
+use Rattle.image.proofs.Opens.{allowed_sizes, opened_image, opened_none}
 use Rattle.image.proofs.opening.open_image.Goals as goal
+
+pub returns-in_default : goal.returns-in_default
+returns-in_default c = opened_none _ _ c.in_default.ensures
 
 pub make_table-requires : goal.make_table-requires
 make_table-requires c =
-    let g = c.args in
     let d = c.decode in
-    let n = c.in-Sheet in
-    let I = subst (DecodedIs g.bytes.now d.new.words d.new.numbers) n.is d.ensures in
-    let z = image_sizes _ _ _ _ _ I in
-    (z, omega (arith, d.auto.numbers), record { room = omega (arith, d.auto.words); valid = I.valid })
+    let I = c.in-Some.ensures in
+    (allowed_sizes _ _ _ _ I.allowed, omega (arith, d.auto.numbers, (allowed_sizes _ _ _ _ I.allowed).devices_to_8), record { room = omega (arith, d.auto.words, (allowed_sizes _ _ _ _ I.allowed).cells_to_64); valid = I.valid })
 
-pub returns-in-Sheet : goal.returns-in-Sheet
-returns-in-Sheet c =
-    let g = c.args in
-    let d = c.decode in
-    let n = c.in-Sheet in
-    let I = subst (DecodedIs g.bytes.now d.new.words d.new.numbers) n.is d.ensures in
-    opened_image _ _ _ _ _ _ _ _ I c.make_table.ensures
-
-pub returns-in-NoImage : goal.returns-in-NoImage
-returns-in-NoImage c =
-    let g = c.args in
-    let d = c.decode in
-    opened_none _ _ (subst (DecodedIs g.bytes.now d.new.words d.new.numbers) c.in-NoImage.is d.ensures)
+pub returns : goal.returns
+returns c = opened_image _ _ _ _ _ _ _ _ c.in-Some.ensures c.make_table.ensures

@@ -1,19 +1,15 @@
 -- `image::writing::write_image` meets its contract: a table's cells and numbers lie where it says.
+use Rattle.std.proofs.lemmas.Result.{err_from_is_err_and}
 use Rattle.image.proofs.Stores.{table_stored, written_none, written_table}
-use native.Mathlib.Omega.{arith}
 use Rattle.image.proofs.writing.write_image.Goals as goal
 
-pub returns-then-not-is_table : goal.returns-then-not-is_table
-returns-then-not-is_table c = written_none _ _ (c.is_table.ensures.never (c.if-not-is_table.true))
-
-pub bounds-t-1 : goal.bounds-t-1
-bounds-t-1 c = let T = c.is_table.ensures.sure (c.if-not-is_table.false) in let l = T.valid.long in omega arith
-
-pub bounds-t-0 : goal.bounds-t-0
-bounds-t-0 c = let T = c.is_table.ensures.sure (c.if-not-is_table.false) in let l = T.valid.long in omega arith
+pub returns-in_err-extent : goal.returns-in_err-extent
+returns-in_err-extent c =
+    let p = err_from_is_err_and c.from_residual.result c.from_residual.ensures.1 in
+    rw (p.1, p.2, c.in_err-extent.ensures.0) (written_none _ _ c.in_err-extent.ensures.1)
 
 pub write-requires : goal.write-requires
-write-requires c = table_stored _ (c.is_table.ensures.sure (c.if-not-is_table.false))
+write-requires c = let R = c.in_ok-extent.ensures in rw (R.devices_are, R.cells_are) (table_stored _ R.table)
 
 pub returns : goal.returns
-returns c = written_table _ _ _ _ (c.is_table.ensures.sure (c.if-not-is_table.false)) c.write.ensures
+returns c = let R = c.in_ok-extent.ensures in written_table _ _ _ _ R.table (rw (R.devices_are, R.cells_are) at c.write.ensures)

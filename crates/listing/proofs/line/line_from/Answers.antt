@@ -7,14 +7,8 @@ use Rattle.listing.proofs.line.line_from.Goals as goal
 pub loop-i-init : goal.loop-i-init
 loop-i-init c = (refl, seen_none _ _ _ _ c.requires.0 c.none-held.ensures)
 
-pub bounds-s-i : goal.bounds-s-i
-bounds-s-i c = omega arith
-
 pub feed-requires : goal.feed-requires
 feed-requires c = let l = c.loop-i in omega (arith, l.invariant.0)
-
-pub overflow_add-result : goal.overflow_add-result
-overflow_add-result c = omega arith
 
 pub returns-in-Line : goal.returns-in-Line
 returns-in-Line c =
@@ -31,12 +25,6 @@ returns-in-Long c =
     let g = c.args in
     seen_long g.s.now g.from l.i l.line l.held (omega arith) l.invariant.1 (omega arith) (sym f.ensures.0 ∙ c.in-Long.is)
 
-pub overflow_add-i : goal.overflow_add-i
-overflow_add-i c = omega arith
-
-pub loop-i-smaller : goal.loop-i-smaller
-loop-i-smaller c = omega arith
-
 pub loop-i-preserved : goal.loop-i-preserved
 loop-i-preserved c =
     let f = c.feed in
@@ -44,9 +32,6 @@ loop-i-preserved c =
     let g = c.args in
     let h = seen_more g.s.now g.from l.i l.line l.held (omega arith) l.invariant.1 (omega arith) c.in-More.p (sym f.ensures.0 ∙ c.in-More.is) in
     (f.auto.line ∙ l.invariant.0, rw f.ensures.1 h)
-
-pub shape_of-line : goal.shape_of-line
-shape_of-line c = c.loop-i.invariant.0
 
 pub returns : goal.returns
 returns c = let l = c.loop-i in seen_all _ _ l.i _ _ l.invariant.1 (omega arith)

@@ -1,37 +1,21 @@
 -- `listing::line::number_line` meets its contract: the text of the line that is there tells.
-use mathlib.Core.Path.{◌∙◌, subst, sym}
-use lib.Seq.{length-take-le}
+use mathlib.Core.Path.{◌∙◌, sym}
 use native.Mathlib.Omega.{arith}
-use Rattle.listing.specs.Texts.{LineReadIs}
+use lib.Seq.{length-take-le}
 use Rattle.listing.proofs.Coded.{number_line_none, number_line_one, number_line_other}
 use Rattle.listing.proofs.line.number_line.Goals as goal
 
-pub slice_bounds-line-end : goal.slice_bounds-line-end
-slice_bounds-line-end c =
-    let f = c.line_from in
-    let h = subst (LineReadIs _ _ f.new.line) c.in-Ends.is f.ensures in
-    omega (arith, h.0, f.auto.line)
+pub returns-in_err-k : goal.returns-in_err-k
+returns-in_err-k c = rw c.from_residual.ensures (number_line_none c.args.s.now c.args.at c.in_err-k.ensures)
 
 pub slice_bounds-number_from-end : goal.slice_bounds-number_from-end
 slice_bounds-number_from-end c =
     let f = c.line_from in
-    let h = subst (LineReadIs _ _ f.new.line) c.in-Ends.is f.ensures in
-    sym (length-take-le _ f.new.line (omega (arith, h.0, f.auto.line)))
+    sym (length-take-le _ f.new.line (omega (arith, c.in_ok-k.ensures.0, f.auto.line)))
 
-pub returns-in-Is : goal.returns-in-Is
-returns-in-Is c =
-    let f = c.line_from in
-    let h = subst (LineReadIs _ _ f.new.line) c.in-Ends.is f.ensures in
-    number_line_one _ _ _ _ h.1 _ (sym c.number_from.ensures ∙ c.in-Is.is)
+pub returns-in_err-n : goal.returns-in_err-n
+returns-in_err-n c =
+    rw c.from_residual-in_err-n.ensures (number_line_other _ _ _ _ c.in_ok-k.ensures.1 (sym c.number_from.ensures ∙ c.in_err-n.was))
 
-pub returns-in-Not : goal.returns-in-Not
-returns-in-Not c =
-    let f = c.line_from in
-    let h = subst (LineReadIs _ _ f.new.line) c.in-Ends.is f.ensures in
-    number_line_other _ _ _ _ h.1 (sym c.number_from.ensures ∙ c.in-Not.is)
-
-pub returns-in-NoLine : goal.returns-in-NoLine
-returns-in-NoLine c =
-    let g = c.args in
-    let f = c.line_from in
-    number_line_none g.s.now g.at (subst (LineReadIs g.s.now g.at f.new.line) c.in-NoLine.is f.ensures)
+pub returns : goal.returns
+returns c = number_line_one _ _ _ _ c.in_ok-k.ensures.1 _ (sym c.number_from.ensures ∙ c.in_ok-n.was)

@@ -4,7 +4,7 @@ use Rattle.queues.proofs.Items.{items_movable, item_popped}
 use Rattle.queues.proofs.item.pop_item.Goals as goal
 
 pub move_items-requires : goal.move_items-requires
-move_items-requires c = let H = c.requires in (items_movable _ _ _ H, H.few_devices, H.few_cells)
+move_items-requires c = items_movable _ _ _ c.requires
 
 pub returns : goal.returns
 returns c = item_popped _ _ _ c.requires _ (omega (arith, c.requires.size, c.move_items.auto.r)) c.move_items.ensures

@@ -4,7 +4,7 @@ use native.Mathlib.Omega.{arith}
 use Rattle.record.proofs.begin.begin.Goals as goal
 
 pub begin_knowing-requires : goal.begin_knowing-requires
-begin_knowing-requires c = (omega arith, omega arith, c.clear_cells.ensures.valid)
+begin_knowing-requires c = (omega arith, omega arith, c.fill.ensures.valid)
 
 pub returns : goal.returns
-returns c = begun_blank _ _ _ _ _ c.clear_cells.ensures c.begin_knowing.ensures
+returns c = begun_blank _ _ _ _ _ c.fill.ensures c.begin_knowing.ensures

@@ -1,23 +1,19 @@
 -- `server::calls::serverdrop` meets its contract: no table, no such device, or the step.
-use native.Mathlib.Omega.{arith}
+use Rattle.std.proofs.lemmas.Result.{err_from_is_err_and}
 use Rattle.protocol.specs.Machine.{serverdrop_at}
 use Rattle.sheet.specs.Sheet.{sheet}
-use Rattle.table.proofs.Lifted.{no_table, no_device}
+use Rattle.table.proofs.Here.{record_here, stepped_here}
+use Rattle.table.proofs.Lifted.{not_known}
 use Rattle.server.proofs.Crashes.{serverdrop_at_is}
 use Rattle.server.proofs.calls.serverdrop.Goals as goal
 
-pub returns-then-not-is_table : goal.returns-then-not-is_table
-returns-then-not-is_table c = no_table _ _ (c.is_table.ensures.never (c.if-not-is_table.true))
+pub returns-in_err-extent : goal.returns-in_err-extent
+returns-in_err-extent c =
+    let p = err_from_is_err_and c.from_residual.result c.from_residual.ensures.1 in
+    rw (p.1, p.2) (not_known _ (serverdrop_at sheet) _ _ (λ _. serverdrop_at_is c.args.d _) _ c.in_err-extent.ensures)
 
-pub bounds-t-0 : goal.bounds-t-0
-bounds-t-0 c =
-    let T = (c.is_table.ensures.sure (c.if-not-is_table.false)) in
-    let ok = T.valid in
-    let z = ok.sizes in
-    omega arith
+pub drop_connection-requires : goal.drop_connection-requires
+drop_connection-requires c = let k = c.in_ok-extent.ensures in record_here _ _ _ c.args.d k.0 k.1
 
-pub returns-then-d-t : goal.returns-then-d-t
-returns-then-d-t c = no_device _ (serverdrop_at sheet) _ _ (serverdrop_at_is c.args.d _) (c.is_table.ensures.sure (c.if-not-is_table.false)) c.if-d-t.true
-
-pub drop_known-requires : goal.drop_known-requires
-drop_known-requires c = ((c.is_table.ensures.sure (c.if-not-is_table.false)), c.if-d-t.false)
+pub returns : goal.returns
+returns c = let k = c.in_ok-extent.ensures in stepped_here _ _ _ c.args.d k.0 k.1 _ (serverdrop_at sheet) (serverdrop_at_is c.args.d _) _ _ c.drop_connection.auto.r c.drop_connection.ensures

@@ -1,17 +1,18 @@
 -- `server::gather::gather` meets its contract: the segment begins with nothing.
 use Rattle.server.proofs.GatherAll.{segment_ready, few_cells}
+use Rattle.std.proofs.Common.{refl}
 use native.Mathlib.Omega.{arith}
 use Rattle.server.proofs.gather.gather.Goals as goal
 
-pub clear_changes-requires : goal.clear_changes-requires
-clear_changes-requires c =
+pub fill-requires : goal.fill-requires
+fill-requires c =
     let n = few_cells _ _ _ c.requires.0 in
-    omega arith
+    record { fits = omega arith; v_value = refl }
 
 pub gather_all-requires : goal.gather_all-requires
 gather_all-requires c =
     let p = c.requires in
     let n = few_cells _ _ _ p.0 in (
       p.0,
-      segment_ready _ n _ _ _ c.clear_numbers.ensures c.clear_changes.ensures (omega arith),
+      segment_ready _ n _ _ _ c.clear_numbers.ensures c.fill.ensures (omega arith),
     )

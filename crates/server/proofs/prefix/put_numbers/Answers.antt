@@ -1,7 +1,6 @@
 -- `server::prefix::put_numbers` meets its contract: each turn stores one number more.
-use mathlib.Core.Path.{◌≡◌, refl, ap, ◌∙◌}
+use mathlib.Core.Path.{◌≡◌, ap}
 use Prim.Native.Nat.{ℕ, ◌+◌}
-use lib.ListN.{length-set}
 use Rattle.words.proofs.Places.{numbers_none, numbers_more}
 use Rattle.server.proofs.GatherAll.{few, fits}
 use Rattle.server.proofs.Prefixes.{taken_word, taken_in_range}
@@ -9,7 +8,7 @@ use native.Mathlib.Omega.{arith}
 use Rattle.server.proofs.prefix.put_numbers.Goals as goal
 
 pub loop-d-init : goal.loop-d-init
-loop-d-init c = (omega arith, refl, numbers_none _ _ _)
+loop-d-init c = numbers_none _ _ _
 
 pub overflow_mul-at : goal.overflow_mul-at
 overflow_mul-at c =
@@ -65,24 +64,15 @@ bounds-item-d c =
     let e = few _ _ _ c.requires.0 c.loop-d.d c.loop-d-test.true in
     omega arith
 
-pub overflow_add-d : goal.overflow_add-d
-overflow_add-d c = omega arith
-
-pub loop-d-smaller : goal.loop-d-smaller
-loop-d-smaller c = omega arith
-
 pub loop-d-preserved : goal.loop-d-preserved
 loop-d-preserved c =
     let T = c.requires.0 in
     let l = c.loop-d in
     let e = few _ _ _ T l.d c.loop-d-test.true in
-    (omega arith, length-set l.item _ _ ∙ l.invariant.1, numbers_more _ _ _ l.d _ _ l.invariant.2 (omega arith) (ap (λ (n : ℕ). n + 1) (taken_word _ _ _ T l.d c.loop-d-test.true)))
-
-pub shape_of-item : goal.shape_of-item
-shape_of-item c = c.loop-d.invariant.1
+    numbers_more _ _ _ l.d _ _ l.invariant (omega arith) (ap (λ (n : ℕ). n + 1) (taken_word _ _ _ T l.d c.loop-d-test.true))
 
 pub returns : goal.returns
 returns c =
     let l = c.loop-d in
-    let e : l.d ≡ c.args.devices = omega arith in
-    rw e at l.invariant.2
+    let e : l.d ≡ c.args.extent.devices = omega arith in
+    rw e at l.invariant

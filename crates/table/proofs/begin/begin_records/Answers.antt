@@ -1,5 +1,5 @@
 -- `table::begin::begin_records` meets its contract: each turn begins one record more.
-use mathlib.Core.Path.{◌≡◌, refl, ◌∙◌}
+use mathlib.Core.Path.{◌≡◌, ◌∙◌}
 use Rattle.table.proofs.Part.{part_is, part_length, replaced}
 use Rattle.cells.specs.declared.Cell.TheVariants.{Blank}
 use Rattle.record.specs.Begun.{Begun}
@@ -8,37 +8,10 @@ use native.Mathlib.Omega.{arith}
 use Rattle.table.proofs.begin.begin_records.Goals as goal
 
 pub loop-d-init : goal.loop-d-init
-loop-d-init c = (omega arith, refl, each_none (λ d. Begun _ (λ c. Blank) 0) _)
-
-pub overflow_mul-a : goal.overflow_mul-a
-overflow_mul-a c = omega arith
-
-pub overflow_add-a : goal.overflow_add-a
-overflow_add-a c = omega arith
-
-pub overflow_add-e : goal.overflow_add-e
-overflow_add-e c = omega arith
-
-pub offset_bounds-t-a : goal.offset_bounds-t-a
-offset_bounds-t-a c = omega arith
-
-pub slice_bounds-begin-count : goal.slice_bounds-begin-count
-slice_bounds-begin-count c = omega arith
-
-pub slice_bounds-begin-start : goal.slice_bounds-begin-start
-slice_bounds-begin-start c = omega arith
-
-pub slice_bounds-begin-end : goal.slice_bounds-begin-end
-slice_bounds-begin-end c = omega arith
+loop-d-init c = each_none (λ d. Begun _ (λ c. Blank) 0) _
 
 pub begin-requires : goal.begin-requires
-begin-requires c = let l = c.loop-d in (part_length _ l.d (omega arith), omega arith)
-
-pub overflow_add-d : goal.overflow_add-d
-overflow_add-d c = omega arith
-
-pub loop-d-smaller : goal.loop-d-smaller
-loop-d-smaller c = omega arith
+begin-requires c = (part_length _ c.loop-d.d (omega arith), c.args.extent.few_cells)
 
 pub loop-d-preserved : goal.loop-d-preserved
 loop-d-preserved c =
@@ -46,13 +19,10 @@ loop-d-preserved c =
     let w = c.begin in
     let size = w.auto.r ∙ part_length l.t l.d (omega arith) in
     let R = replaced l.t _ l.d (omega arith) size in
-    (omega arith, R.same_length ∙ l.invariant.1, each_more (λ d. Begun _ (λ c. Blank) 0) _ l.t _ _ l.d l.invariant.1 (omega arith) l.invariant.2 R (rw (part_is _ _) at w.ensures))
-
-pub shape_of-t : goal.shape_of-t
-shape_of-t c = c.loop-d.invariant.1
+    each_more (λ d. Begun _ (λ c. Blank) 0) _ l.t _ _ l.d l.auto.t (omega arith) l.invariant R (rw (part_is _ _) at w.ensures)
 
 pub returns : goal.returns
 returns c =
     let l = c.loop-d in
-    let e : l.d ≡ c.args.n = omega arith in
-    rw e at l.invariant.2
+    let e : l.d ≡ c.args.extent.devices = omega arith in
+    rw e at l.invariant

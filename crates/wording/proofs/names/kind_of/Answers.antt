@@ -1,64 +1,44 @@
-use mathlib.Core.Path.{sym, ◌∙◌}
-use Rattle.wording.specs.Names.{kind_of}
+use Rattle.std.proofs.Common.{rules, arith}
+use Rattle.wording.proofs.KindNames.{named}
+use Rattle.wording.specs.declared.names.Act.{Act}
+use Rattle.wording.specs.declared.names.Kind.{Kind}
 use Rattle.wording.proofs.names.kind_of.Goals as goal
 
-pub returns-then-same : goal.returns-then-same
-unfolding kind_of
-returns-then-same c = rw (
-    sym c.same.ensures ∙ c.if-same.true)
+pub returns-in-start : goal.returns-in-start
+returns-in-start c = named c.args.name.now Kind.Start (omega arith) (search rules)
 
-pub returns-then-same-2 : goal.returns-then-same-2
-unfolding kind_of
-returns-then-same-2 c = rw (
-  sym c.same.ensures ∙ c.if-same.false,
-  sym c.same-2.ensures ∙ c.if-same-2.true,
-)
+pub returns-in-update : goal.returns-in-update
+returns-in-update c = named c.args.name.now Kind.Update (omega arith) (search rules)
 
-pub returns-then-same-3 : goal.returns-then-same-3
-unfolding kind_of
-returns-then-same-3 c = rw (
-  sym c.same.ensures ∙ c.if-same.false,
-  sym c.same-2.ensures ∙ c.if-same-2.false,
-  sym c.same-3.ensures ∙ c.if-same-3.true,
-)
+pub returns-in-read : goal.returns-in-read
+returns-in-read c = named c.args.name.now Kind.Read (omega arith) (search rules)
 
-pub returns-then-same-4 : goal.returns-then-same-4
-unfolding kind_of
-returns-then-same-4 c = rw (
-  sym c.same.ensures ∙ c.if-same.false,
-  sym c.same-2.ensures ∙ c.if-same-2.false,
-  sym c.same-3.ensures ∙ c.if-same-3.false,
-  sym c.same-4.ensures ∙ c.if-same-4.true,
-)
+pub returns-in-batch : goal.returns-in-batch
+returns-in-batch c = named c.args.name.now Kind.Batch (omega arith) (search rules)
 
-pub returns-then-same-5 : goal.returns-then-same-5
-unfolding kind_of
-returns-then-same-5 c = rw (
-  sym c.same.ensures ∙ c.if-same.false,
-  sym c.same-2.ensures ∙ c.if-same-2.false,
-  sym c.same-3.ensures ∙ c.if-same-3.false,
-  sym c.same-4.ensures ∙ c.if-same-4.false,
-  sym c.same-5.ensures ∙ c.if-same-5.true,
-)
+pub returns-in-crash : goal.returns-in-crash
+returns-in-crash c = named c.args.name.now Kind.Crash (omega arith) (search rules)
 
-pub returns-then-same-6 : goal.returns-then-same-6
-unfolding kind_of
-returns-then-same-6 c = rw (
-  sym c.same.ensures ∙ c.if-same.false,
-  sym c.same-2.ensures ∙ c.if-same-2.false,
-  sym c.same-3.ensures ∙ c.if-same-3.false,
-  sym c.same-4.ensures ∙ c.if-same-4.false,
-  sym c.same-5.ensures ∙ c.if-same-5.false,
-  sym c.same-6.ensures ∙ c.if-same-6.true,
-)
+pub returns-in-push : goal.returns-in-push
+returns-in-push c = named c.args.name.now (Kind.Device Act.Push) (omega arith) (search rules)
 
-pub returns : goal.returns
-unfolding kind_of
-returns c = c.kind_of_act.ensures ∙ rw (
-  sym c.same.ensures ∙ c.if-same.false,
-  sym c.same-2.ensures ∙ c.if-same-2.false,
-  sym c.same-3.ensures ∙ c.if-same-3.false,
-  sym c.same-4.ensures ∙ c.if-same-4.false,
-  sym c.same-5.ensures ∙ c.if-same-5.false,
-  sym c.same-6.ensures ∙ c.if-same-6.false,
-)
+pub returns-in-send : goal.returns-in-send
+returns-in-send c = named c.args.name.now (Kind.Device Act.Send) (omega arith) (search rules)
+
+pub returns-in-confirmed : goal.returns-in-confirmed
+returns-in-confirmed c = named c.args.name.now (Kind.Device Act.Confirmed) (omega arith) (search rules)
+
+pub returns-in-drop : goal.returns-in-drop
+returns-in-drop c = named c.args.name.now (Kind.Device Act.Drop) (omega arith) (search rules)
+
+pub returns-in-receive : goal.returns-in-receive
+returns-in-receive c = named c.args.name.now (Kind.Device Act.Receive) (omega arith) (search rules)
+
+pub returns-in-pull : goal.returns-in-pull
+returns-in-pull c = named c.args.name.now (Kind.Device Act.Pull) (omega arith) (search rules)
+
+pub returns-in-accept : goal.returns-in-accept
+returns-in-accept c = named c.args.name.now (Kind.Device Act.Accept) (omega arith) (search rules)
+
+pub returns-in-serverdrop : goal.returns-in-serverdrop
+returns-in-serverdrop c = named c.args.name.now (Kind.Device Act.Serverdrop) (omega arith) (search rules)

@@ -1,41 +1,13 @@
-use mathlib.Core.Path.{sym, ◌∙◌}
-use Rattle.wording.specs.Values.{update_name_of}
+use Rattle.std.proofs.Common.{rules, arith}
+use Rattle.wording.specs.Names.{blank_text, count_text, measure_text}
+use Rattle.wording.proofs.UpdateNames.{update_names, named}
 use Rattle.wording.proofs.values.update_name_of.Goals as goal
 
-pub returns-then-same : goal.returns-then-same
-unfolding update_name_of
-returns-then-same c = rw (
-    sym c.same.ensures ∙ c.if-same.true)
+pub returns-in-blank : goal.returns-in-blank
+returns-in-blank c = named c.args.f.now blank_text update_names.0 (omega arith) (search rules)
 
-pub returns-then-same-2 : goal.returns-then-same-2
-unfolding update_name_of
-returns-then-same-2 c = rw (
-  sym c.same.ensures ∙ c.if-same.false,
-  sym c.same-2.ensures ∙ c.if-same-2.true,
-)
+pub returns-in-count : goal.returns-in-count
+returns-in-count c = named c.args.f.now count_text update_names.1 (omega arith) (search rules)
 
-pub returns-then-same-3 : goal.returns-then-same-3
-unfolding update_name_of
-returns-then-same-3 c = rw (
-  sym c.same.ensures ∙ c.if-same.false,
-  sym c.same-2.ensures ∙ c.if-same-2.false,
-  sym c.same-3.ensures ∙ c.if-same-3.true,
-)
-
-pub returns-then-same-4 : goal.returns-then-same-4
-unfolding update_name_of
-returns-then-same-4 c = rw (
-  sym c.same.ensures ∙ c.if-same.false,
-  sym c.same-2.ensures ∙ c.if-same-2.false,
-  sym c.same-3.ensures ∙ c.if-same-3.false,
-  sym c.same-4.ensures ∙ c.if-same-4.true,
-)
-
-pub returns : goal.returns
-unfolding update_name_of
-returns c = rw (
-  sym c.same.ensures ∙ c.if-same.false,
-  sym c.same-2.ensures ∙ c.if-same-2.false,
-  sym c.same-3.ensures ∙ c.if-same-3.false,
-  sym c.same-4.ensures ∙ c.if-same-4.false,
-)
+pub returns-in-measure : goal.returns-in-measure
+returns-in-measure c = named c.args.f.now measure_text update_names.2 (omega arith) (search rules)

@@ -1,0 +1,10 @@
+-- `words::across::change_from` meets its contract: the place of a turn is as it was at the start.
+use Rattle.std.proofs.Common.{◌+◌, ◌*◌}
+use Rattle.words.specs.Layout.{PLACE}
+use Rattle.words.specs.Place.{place, words_at, change_at, Filled}
+use Rattle.words.proofs.across.change_from.Given as goal
+
+abbrev pub invariant-loop-i : goal.invariant-loop-i
+invariant-loop-i g l =
+    let s = g.T.Stored in
+    Filled (place s.of_words s.words_ok) l.initial.t l.t l.to l.i (λ k. g.T.Changed.after (words_at s.of_words l.initial.t (l.to + PLACE * k)) (change_at l.s (l.from + PLACE * k)))
