@@ -14,13 +14,16 @@ use Rattle.protocol.specs.History.{Every}
 use Rattle.protocol.specs.Claims.{join_updates}
 use Rattle.protocol.specs.Refusals.{FirstBad as FirstBadOn}
 use Rattle.sheet.specs.Sheet.{sheet}
-use Rattle.sheet.proofs.OneAnswer.{done_refused}
+use Rattle.std.specs.Prelude.{Ok}
+use Rattle.sheet.specs.Answer.{block_meaning}
+use Rattle.sheet.specs.declared.Answer.TheVariants.{Done}
+use Rattle.sheet.proofs.OneAnswer.{done_refused, block_meaning_one}
 use Rattle.sheet.proofs.Theorem.{refused_exactly_when, refusal_changes_nothing}
 use Rattle.words.proofs.Places.{lt_or_ge}
 use Rattle.table.specs.Table.{reading, IsTable}
 use Rattle.table.proofs.Once.{became_same, either_way}
 use Rattle.block.specs.Block.{update_in, updates_in, refusal_of, by_refusal, first_bad}
-use Rattle.block.specs.Claims.{FirstBad, BlockAlwaysAnswers, BlockAllOrNone, EmptyBlock, BlockInOrder}
+use Rattle.block.specs.Claims.{FirstBad, BlockAlwaysAnswers, BlockAllOrNone, BlockAllOrNoneGiven, EmptyBlock, BlockInOrder}
 use Rattle.block.specs.declared.Entry.{Entry}
 use Rattle.block.proofs.Joins.{opened, placed, placed_same, joined_on, block_done, block_refused, update_done}
 
@@ -138,3 +141,6 @@ block_in_order d es xs ys T S =
     ∙ ap (λ (x : Result sheet). x.table) (block_done (reading xs) d p.0 es (good (reading xs).cells es 0 p.1))
     ∙ sym (one_by_one d (reading xs) p.0 es ((reading xs).device d).transaction p.1)
     ∙ ap (run sheet (map (λ e. machine.update d (update_in e)) es)) (placed_same d (reading xs))
+
+pub block_all_or_none_given : BlockAllOrNoneGiven
+block_all_or_none_given d es xs ys r S n = block_all_or_none d es xs ys (block_meaning r) S (λ e. n (block_meaning_one r (Ok Done) e))

@@ -1,6 +1,6 @@
 -- "all or none, in order. An empty block changes nothing"; "In a block the first bad update counts": what the promise of a block comes to.
 -- Assumes nothing.
-use Rattle.std.specs.Prelude.{◌≡◌, ◌↔◌, List, [], ◌∷◌, map, ℕ, zero, suc, ◌≤◌, ◌<◌}
+use Rattle.std.specs.Prelude.{◌≡◌, ◌↔◌, Ok, List, [], ◌∷◌, map, ℕ, zero, suc, ◌≤◌, ◌<◌}
 use Rattle.std.proofs.Math.Option.{none, some}
 use Rattle.protocol.specs.declared.Refusal.{Refusal}
 use Rattle.protocol.specs.declared.Refusal.TheVariants.{NoTable, NoDevice}
@@ -8,6 +8,8 @@ use Rattle.protocol.specs.Machine.{step, run, done, refused, refused_at, Answer}
 use Rattle.protocol.specs.Machine as machine
 use Rattle.protocol.specs.History.{Every}
 use Rattle.sheet.specs.Sheet.{sheet}
+use Rattle.sheet.specs.Answer.{BlockGiven, block_meaning}
+use Rattle.sheet.specs.declared.Answer.TheVariants.{Done}
 use Rattle.table.specs.Table.{reading, IsTable}
 use Rattle.table.specs.Promise.{Stepped}
 use Rattle.block.specs.Block.{update_in, updates_in, refusal_of}
@@ -36,6 +38,9 @@ BlockAlwaysAnswers = (d : ℕ) (es : List Entry) (xs ys : List ℕ) (a : Answer 
 -- "all or none": a block that is not done leaves every word as it is, and so does an empty one.
 abbrev pub BlockAllOrNone : Type 0
 BlockAllOrNone = (d : ℕ) (es : List Entry) (xs ys : List ℕ) (a : Answer sheet) → Blocked d es xs a ys → (a ≡ done → ⊥) → ys ≡ xs
+
+abbrev pub BlockAllOrNoneGiven : Type 0
+BlockAllOrNoneGiven = (d : ℕ) (es : List Entry) (xs ys : List ℕ) (r : BlockGiven) → Blocked d es xs (block_meaning r) ys → (r ≡ Ok Done → ⊥) → ys ≡ xs
 
 abbrev pub EmptyBlock : Type 0
 EmptyBlock = (d : ℕ) (xs ys : List ℕ) (a : Answer sheet) → Blocked d [] xs a ys → ys ≡ xs

@@ -14,7 +14,11 @@ use Rattle.protocol.specs.Claims.{Explained, Onward, waiting_in}
 use Rattle.protocol.specs.Claims as Claims
 use Rattle.protocol.proofs.Run.{read_same, confirmed_same}
 use Rattle.sheet.specs.Changes.{idle_below}
+use Rattle.std.specs.Prelude.{Ok}
 use Rattle.sheet.specs.Sheet.{sheet}
+use Rattle.sheet.specs.Answer.{meaning, block_meaning}
+use Rattle.sheet.specs.declared.Answer.TheVariants.{Done, Value, Yes}
+use Rattle.sheet.proofs.OneAnswer.{meaning_one, block_meaning_one}
 use Rattle.sheet.proofs.Runs.{run_append}
 use Rattle.sheet.proofs.Theorem as Sheet
 use Rattle.words.proofs.Places.{lt_or_ge}
@@ -23,7 +27,7 @@ use Rattle.table.specs.Table.{IsTable, reading}
 use Rattle.table.proofs.Once.{became_same, either_way}
 use Rattle.image.specs.Promise.{Written, image_of_table}
 use Rattle.desk.specs.Calls.{Call, Called, Made, Calls, Renews, anew, start, update, block, read, confirmed, push, send, ask, give_up, receive, pull, accept, serverdrop, batch, crash, cut, write_image, open_image}
-use Rattle.desk.specs.Demand3.{step_of_call, steps_of, history_of, read_by, refusal_number, RefusalsByNumber, Next, reconnect, Reached, Demand3OverCalls, EachCall, LookingLeaves}
+use Rattle.desk.specs.Demand3.{step_of_call, steps_of, history_of, read_by, refusal_number, RefusalsByNumber, Next, reconnect, Reached, Demand3OverCalls, EachCall, LookingLeaves, ReadsGiven, ReconnectsGiven, RenewsGiven}
 use Rattle.desk.proofs.Never1.{step_never_1, length_never_1, short_never_1}
 use Rattle.desk.proofs.Reaches.{start_stays, opening_stays, AllowedStart, At, is_table, called_steps, begun_at}
 
@@ -197,6 +201,15 @@ pub demand_3_over_calls : Demand3OverCalls
 demand_3_over_calls b ms xs R =
     let first = begun_at b R.first R.begun in
     reached b ms xs first.0 (called_steps b first.0 ms [] R.first xs first.1 R.calls R.goes_on)
+
+pub reads_given : ReadsGiven
+reads_given b ms xs R d c r ys C h k = meaning_one r (Ok (Value (read_by b (history_of b ms) d c))) ((demand_3_over_calls b ms xs R).reads d c (meaning r) ys C h k)
+
+pub reconnects_given : ReconnectsGiven
+reconnects_given b ms xs R d h i ns e ys zs r C A = meaning_one r (Ok Yes) ((demand_3_over_calls b ms xs R).reconnects d h i ns e ys zs (meaning r) C A)
+
+pub renews_given : RenewsGiven
+renews_given c r = (λ w. (w.0, block_meaning_one r (Ok Done) w.1), λ w. (w.0, ap block_meaning w.1))
 
 split_calls : (ms ns : List Made) (xs zs : List ℕ) → Calls xs (ms ++ ns) zs → (ys : List ℕ) × Calls xs ms ys × Calls ys ns zs
 split_calls [] ns xs zs C = (xs, refl, C)

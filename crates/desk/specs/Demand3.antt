@@ -1,5 +1,5 @@
 -- "demand 3 over lists", of the calls: what every list of them comes to, and what the next call answers. Assumes nothing.
-use Rattle.std.specs.Prelude.{◌≡◌, true, false, List, [], ◌∷◌, ◌++◌, map, ℕ, ◌+◌, ◌<◌, length, take, drop, replicate}
+use Rattle.std.specs.Prelude.{◌≡◌, ◌↔◌, Ok, true, false, List, [], ◌∷◌, ◌++◌, map, ℕ, ◌+◌, ◌<◌, length, take, drop, replicate}
 use Rattle.cells.specs.declared.Cell.{Cell}
 use Rattle.protocol.specs.declared.Refusal.{Refusal}
 use Rattle.protocol.specs.Machine.{Start, Step, Table, Result, step, batched_unless0, after_crash, Answer, done, value, says_yes, says_no, moved, length_is, refused, refused_at}
@@ -9,6 +9,8 @@ use Rattle.protocol.specs.Claims.{Explained, Onward, sheet_at, waiting_in}
 use Rattle.protocol.specs.Refusals.{number_of}
 use Rattle.sheet.specs.Changes.{idle_below}
 use Rattle.sheet.specs.Sheet.{sheet}
+use Rattle.sheet.specs.Answer.{Given, BlockGiven, meaning, block_meaning}
+use Rattle.sheet.specs.declared.Answer.TheVariants.{Done, Value, Yes}
 use Rattle.device.specs.Named.{update_of}
 use Rattle.table.specs.Promise.{Stepped}
 use Rattle.table.specs.Table.{reading, IsTable}
@@ -117,6 +119,19 @@ pub record Reached (b : Start sheet) (ms : List Made) (xs : List ℕ) : Type 0 w
 -- demand 3, for every list of calls
 abbrev pub Demand3OverCalls : Type 0
 Demand3OverCalls = (b : Start sheet) (ms : List Made) (xs : List ℕ) → Run b ms xs → Reached b ms xs
+
+-- The same of what is given: a read's value, confirmed behind reconnecting, and a start or an opening that is done.
+abbrev pub ReadsGiven : Type 0
+ReadsGiven = (b : Start sheet) (ms : List Made) (xs : List ℕ) → Run b ms xs → (d c : ℕ) (r : Given) (ys : List ℕ)
+    → Called (read d c) xs (meaning r) ys → d < b.devices → c < b.cells → r ≡ Ok (Value (read_by b (history_of b ms) d c))
+
+abbrev pub ReconnectsGiven : Type 0
+ReconnectsGiven = (b : Start sheet) (ms : List Made) (xs : List ℕ) → Run b ms xs → (d : ℕ) → d < b.devices
+    → idle_below b.cells ((reading xs).device d).transaction ≡ true → (ns : List Made) → map (λ m. m.call) ns ≡ reconnect d
+    → (ys zs : List ℕ) (r : Given) → Calls xs ns ys → Called (confirmed d) ys (meaning r) zs → r ≡ Ok Yes
+
+abbrev pub RenewsGiven : Type 0
+RenewsGiven = (c : Call) (r : BlockGiven) → Renews (record { call = c; answer = block_meaning r }) ↔ ((anew c ≡ true) × (r ≡ Ok Done))
 
 -- Each call of a list is the next one on words to which the calls before it led, so the above is about each call's answer.
 abbrev pub EachCall : Type 0

@@ -11,13 +11,16 @@ use borrow.Author.Tests.{le-ltb, lt-ltb}
 use Rattle.cbor.proofs.Codes.{all_at}
 use Rattle.cells.specs.declared.Cell.{Cell}
 use Rattle.cells.specs.declared.Cell.TheVariants.{Blank}
+use Rattle.std.specs.Prelude.{Ok}
 use Rattle.protocol.specs.Fits.{Fits, Sizes}
 use Rattle.protocol.specs.Machine.{Start, Table, choose, fresh, fresh_device, length_is, refused}
 use Rattle.protocol.specs.Machine as machine
 use Rattle.protocol.specs.declared.Refusal.{Refusal}
 use Rattle.protocol.specs.declared.Refusal.TheVariants.{BufferShort, NoImage, NoTable}
 use Rattle.sheet.specs.Sheet.{sheet}
-use Rattle.sheet.proofs.OneAnswer.{done_refused}
+use Rattle.sheet.specs.Answer.{meaning}
+use Rattle.sheet.specs.declared.Answer.TheVariants.{Length}
+use Rattle.sheet.proofs.OneAnswer.{done_refused, meaning_one}
 use Rattle.sheet.proofs.Theorem.{reached_fits}
 use Rattle.words.specs.Layout.{CELLS, DEVICES, SHEET, TAKEN}
 use Rattle.words.proofs.Places.{lt_or_ge}
@@ -26,8 +29,9 @@ use Rattle.record.proofs.Queues.{queue_length}
 use Rattle.table.specs.Promise.{Became}
 use Rattle.table.specs.Table.{IsTable, need, reading, record_at}
 use Rattle.table.proofs.InUse.{says_same, also_table, agree_back}
-use Rattle.table.proofs.Once.{became_once, either_way, refused_once}
+use Rattle.table.proofs.Once.{became_once, either_way, given_once, refused_once}
 use Rattle.table.proofs.Theorems.{made_alike}
+use Rattle.image.specs.Claims.{OneOpeningGiven, OneWritingGiven, OpenedWrittenGiven, OpeningGivenByNoWord, WritingGivenByWordsInUse}
 use Rattle.image.specs.Claims.{OneOpening, OneWriting, OpenedIsTable, OpenedWritten, OpeningAlwaysAnswers, OpeningReadsNoWord, WritingAlwaysAnswers, WritingReadsWordsInUse, WrittenOpened}
 use Rattle.coding.specs.Image.{Allowed, NotImage, NumberAllowed, image_of}
 use Rattle.image.specs.Promise.{Makes, Opened, Stores, image_of_table, start_of}
@@ -149,6 +153,11 @@ opened_written bytes xs ys old new a b O e W long = either_way (Image bytes) b (
         let S = subst (λ (s : List ℕ). Stores s old b new) (image_back p.0 p.1 xs ys ((O.makes p.0 p.1 p.2 p.3).after g) ∙ sym p.3) (W.stores T) in
         (S.answer long, S.after long)
 
+pub opened_written_given : OpenedWrittenGiven
+opened_written_given bytes xs ys old new r q O e W long =
+    let o = opened_written bytes xs ys old new (meaning r) (meaning q) O e W long in
+    (meaning_one q (Ok (Length (length bytes))) o.0, o.1)
+
 pub one_writing : OneWriting
 one_writing xs old new other a b A B = either_way (IsTable xs) a b new other
     (λ T. ⊎_elim (λ l. refused_once BufferShort old new other a b ((A.stores T).short l) ((B.stores T).short l)) (λ g. ((A.stores T).answer g ∙ sym ((B.stores T).answer g), (A.stores T).after g ∙ sym ((B.stores T).after g))) (lt_or_ge (length old) (length (image_of_table (reading xs)))))
@@ -162,6 +171,12 @@ one_opening bytes xs ys zs a b A B = either_way (Image bytes) a b ys zs
     made : {s : Start sheet} → Makes s xs a ys → Makes s xs b zs → (a ≡ b) × (ys ≡ zs)
     made {s} M N = ⊎_elim (λ l. refused_once NoTable xs ys zs a b (M.short l) (N.short l)) (λ g. (M.answer g ∙ sym (N.answer g), became_once xs ys zs (fresh sheet s) (M.after g) (N.after g))) (lt_or_ge (length xs) (need s.devices))
 
+pub one_writing_given : OneWritingGiven
+one_writing_given xs old new other r q A B = given_once r q new other (one_writing xs old new other (meaning r) (meaning q) A B)
+
+pub one_opening_given : OneOpeningGiven
+one_opening_given bytes xs ys zs r q A B = given_once r q ys zs (one_opening bytes xs ys zs (meaning r) (meaning q) A B)
+
 pub writing_reads_words_in_use : WritingReadsWordsInUse
 writing_reads_words_in_use xs ys old new other a b A W R = one_writing xs old new other a b W
     record {
@@ -174,3 +189,11 @@ opening_reads_no_word cells numbers xs ys xs' ys' a b ok h k A B =
     let M = A.makes cells numbers ok refl in
     let N = B.makes cells numbers ok refl in
     made_alike (fresh sheet (start_of cells numbers)) xs ys xs' ys' a b (M.answer h) (N.answer k) (M.after h) (N.after k)
+
+pub writing_given_by_words_in_use : WritingGivenByWordsInUse
+writing_given_by_words_in_use xs ys old new other r q A W R =
+    given_once r q new other (writing_reads_words_in_use xs ys old new other (meaning r) (meaning q) A W R)
+
+pub opening_given_by_no_word : OpeningGivenByNoWord
+opening_given_by_no_word cells numbers xs ys xs' ys' r q ok h k A B =
+    meaning_one r q (opening_reads_no_word cells numbers xs ys xs' ys' (meaning r) (meaning q) ok h k A B).answers

@@ -1,10 +1,12 @@
 -- What the promises of writing and opening an image (document 01, "Stored image") come to. Assumes nothing.
-use Rattle.std.specs.Prelude.{List, ◌++◌, ◌↔◌, ◌≡◌, ℕ, ◌≤◌, ◌<◌, length, get_or, take, drop}
+use Rattle.std.specs.Prelude.{List, Ok, ◌++◌, ◌↔◌, ◌≡◌, ℕ, ◌≤◌, ◌<◌, length, get_or, take, drop}
 use Rattle.cells.specs.declared.Cell.{Cell}
 use Rattle.cells.specs.declared.Cell.TheVariants.{Blank}
 use Rattle.protocol.specs.declared.Refusal.TheVariants.{NoTable, BufferShort, NoImage}
 use Rattle.protocol.specs.Machine.{Table, fresh_device, done, refused, length_is, Answer}
 use Rattle.sheet.specs.Sheet.{sheet}
+use Rattle.sheet.specs.Answer.{Given, meaning}
+use Rattle.sheet.specs.declared.Answer.TheVariants.{Length}
 use Rattle.table.specs.Table.{need, reading, IsTable}
 use Rattle.table.specs.Claims.{Agree, MadeAlike}
 use Rattle.coding.specs.Image.{image_of, Allowed, NotImage}
@@ -66,12 +68,26 @@ WrittenOpened = (xs old new : List ℕ) (a : Answer sheet) (n : ℕ) (zs ws : Li
 abbrev pub OpenedWritten : Type 0
 OpenedWritten = (bytes xs ys old new : List ℕ) (a b : Answer sheet) → Opened bytes xs a ys → a ≡ done → Written ys old b new → length bytes ≤ length old → (b ≡ length_is (length bytes)) × (new ≡ bytes ++ drop (length bytes) old)
 
+-- The same of what opening and writing give.
+abbrev pub OpenedWrittenGiven : Type 0
+OpenedWrittenGiven = (bytes xs ys old new : List ℕ) (r q : Given) → Opened bytes xs (meaning r) ys → meaning r ≡ done → Written ys old (meaning q) new
+    → length bytes ≤ length old → (q ≡ Ok (Length (length bytes))) × (new ≡ bytes ++ drop (length bytes) old)
+
 -- No second outcome fits: the answer, and every byte of the buffer or word of the slice.
 abbrev pub OneWriting : Type 0
 OneWriting = (xs old new other : List ℕ) (a b : Answer sheet) → Written xs old a new → Written xs old b other → (a ≡ b) × (new ≡ other)
 
 abbrev pub OneOpening : Type 0
 OneOpening = (bytes xs ys zs : List ℕ) (a b : Answer sheet) → Opened bytes xs a ys → Opened bytes xs b zs → (a ≡ b) × (ys ≡ zs)
+
+-- The same of what writing and opening give.
+abbrev pub OneWritingGiven : Type 0
+OneWritingGiven = (xs old new other : List ℕ) (r q : Given) → Written xs old (meaning r) new → Written xs old (meaning q) other
+    → (r ≡ q) × (new ≡ other)
+
+abbrev pub OneOpeningGiven : Type 0
+OneOpeningGiven = (bytes xs ys zs : List ℕ) (r q : Given) → Opened bytes xs (meaning r) ys → Opened bytes xs (meaning q) zs
+    → (r ≡ q) × (ys ≡ zs)
 
 -- "Bytes past the table's need stay unread", and so does every word that is not in use: writing answers and writes the same for slices that agree on them.
 abbrev pub WritingReadsWordsInUse : Type 0
@@ -81,3 +97,13 @@ WritingReadsWordsInUse = (xs ys old new other : List ℕ) (a b : Answer sheet) �
 abbrev pub OpeningReadsNoWord : Type 0
 OpeningReadsNoWord = (cells : List Cell) (numbers xs ys xs' ys' : List ℕ) (a b : Answer sheet) → Allowed cells numbers → need (length numbers) ≤ length xs → need (length numbers) ≤ length ys
     → Opened (image_of cells numbers) xs a xs' → Opened (image_of cells numbers) ys b ys' → MadeAlike xs xs' ys' a b
+
+-- The same of what writing and opening give.
+abbrev pub WritingGivenByWordsInUse : Type 0
+WritingGivenByWordsInUse = (xs ys old new other : List ℕ) (r q : Given) → Agree xs ys → Written xs old (meaning r) new → Written ys old (meaning q) other
+    → (r ≡ q) × (new ≡ other)
+
+abbrev pub OpeningGivenByNoWord : Type 0
+OpeningGivenByNoWord = (cells : List Cell) (numbers xs ys xs' ys' : List ℕ) (r q : Given) → Allowed cells numbers
+    → need (length numbers) ≤ length xs → need (length numbers) ≤ length ys
+    → Opened (image_of cells numbers) xs (meaning r) xs' → Opened (image_of cells numbers) ys (meaning q) ys' → r ≡ q

@@ -3,26 +3,33 @@ use mathlib.Core.List.{List, [], ◌++◌, ◌∷◌, append_assoc}
 use mathlib.Core.Logic.{◌⊎◌, ⊎_elim}
 use mathlib.Core.Path.{◌∙◌, ◌≡◌, ap, refl, sym}
 use Prim.Native.Nat.{◌<◌, ◌≤◌, ℕ}
+use native.Mathlib.Decide.{dec_le}
 use native.Mathlib.Omega.{arith}
 use lib.ListN.{drop, get_or, length, take}
 use lib.Seq.{take_at}
+use Rattle.std.specs.Prelude.{Ok}
 use Rattle.cells.specs.declared.Cell.{Cell}
 use Rattle.protocol.specs.Machine.{length_is, refused, Answer}
 use Rattle.protocol.specs.Machine as machine
 use Rattle.protocol.specs.declared.Refusal.TheVariants.{BufferShort, NoImage}
 use Rattle.sheet.specs.Sheet.{sheet}
+use Rattle.sheet.specs.Answer.{meaning}
+use Rattle.sheet.specs.declared.Answer.TheVariants.{Length}
+use Rattle.sheet.proofs.OneAnswer.{meaning_one}
 use Rattle.words.proofs.Places.{lt_or_ge}
 use Rattle.text.specs.Field.{record_of}
 use Rattle.text.specs.Text.{Put}
 use Rattle.text.proofs.PutLaws.{put_once}
-use Rattle.table.proofs.Once.{either_way, refused_once}
+use Rattle.record.proofs.Once.{stable}
+use Rattle.table.proofs.Once.{either_way, given_once, refused_once}
 use Rattle.answers.specs.Answer.{answer_line, answer_text}
 use Rattle.cbor.specs.Code.{each}
 use Rattle.coding.specs.Image.{Allowed, image_of}
 use Rattle.image.specs.Promise.{Stores}
 use Rattle.image.proofs.Theorems.{Image, length_refused, none, one_length}
+use Rattle.imaging.specs.Claims.{OneComposingGiven, ShownComposedGiven}
 use Rattle.imaging.specs.Claims.{ComposedShown, ComposingAlwaysAnswers, OneComposing, OneShowing, RefusedShown, ShownComposed}
-use Rattle.imaging.specs.Composed.{NotText}
+use Rattle.imaging.specs.Composed.{Composed, NotText}
 use Rattle.listing.specs.Shown.{cell_line, image_text, number_line}
 use Rattle.imaging.proofs.WholeText.{cell_first}
 
@@ -47,6 +54,11 @@ pub shown_composed : ShownComposed
 shown_composed cells numbers before after old new r a ok S C g =
     let T = C.stores cells numbers ok (put_front (S.text cells numbers ok refl)) in
     (T.answer g, T.after g)
+
+pub shown_composed_given : ShownComposedGiven
+shown_composed_given cells numbers before after old new n r ok S C g =
+    let o = shown_composed cells numbers before after old new n (meaning r) ok S C g in
+    (meaning_one r (Ok (Length (length (image_of cells numbers)))) o.0, o.1)
 
 -- The text is that of an image.
 abbrev Text : List ℕ → Type 0
@@ -105,3 +117,15 @@ one_composing t old new other a b A B = either_way (Text t) a b new other
         (λ l. refused_once BufferShort old new other a b (M.short l) (N.short l))
         (λ g. (M.answer g ∙ sym (N.answer g), M.after g ∙ sym (N.after g)))
         (room old image)
+
+pub one_composing_given : OneComposingGiven
+one_composing_given t old new other r q A B = given_once r q new other (one_composing t old new other (meaning r) (meaning q) A B)
+
+-- The length that composing answers is within the buffer.
+pub composed_within : (t old new : List ℕ) (a : Answer sheet) (k : ℕ) → Composed t old a new → a ≡ length_is k → k ≤ length old
+composed_within t old new a k C e = stable (dec_le k (length old)) (λ n. length_refused _ _ _ e (C.no_text (no_text t (λ p. n (text p)))).number)
+  where
+    text : Text t → k ≤ length old
+    text p =
+        let T = C.stores p.0 p.1 p.2 p.3 in
+        ⊎_elim (λ l. absurd (length_refused _ _ _ e (T.short l).number)) (λ g. omega (arith, one_length _ _ _ e (T.answer g))) (room old (image_of p.0 p.1))

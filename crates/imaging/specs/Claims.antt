@@ -1,9 +1,11 @@
 -- Beyond document 01: an image as text (docs/DECISIONS.md, "The stored image"). What the promises of showing an image and of composing one come to. Assumes nothing.
-use Rattle.std.specs.Prelude.{List, ◌++◌, ◌↔◌, ◌≡◌, ℕ, ◌≤◌, ◌<◌, length, take, drop}
+use Rattle.std.specs.Prelude.{List, Ok, ◌++◌, ◌↔◌, ◌≡◌, ℕ, ◌≤◌, ◌<◌, length, take, drop}
 use Rattle.cells.specs.declared.Cell.{Cell}
 use Rattle.protocol.specs.declared.Refusal.TheVariants.{BufferShort, NoImage}
 use Rattle.protocol.specs.Machine.{refused, length_is, Answer}
 use Rattle.sheet.specs.Sheet.{sheet}
+use Rattle.sheet.specs.Answer.{Given, meaning}
+use Rattle.sheet.specs.declared.Answer.TheVariants.{Length}
 use Rattle.coding.specs.Image.{image_of, Allowed, NotImage}
 use Rattle.listing.specs.Shown.{image_text, Shown}
 use Rattle.imaging.specs.Composed.{NotText, Composed}
@@ -39,3 +41,13 @@ OneShowing = (bytes before after other : List ℕ) (r q : ℕ) → Shown bytes b
 
 abbrev pub OneComposing : Type 0
 OneComposing = (t old new other : List ℕ) (a b : Answer sheet) → Composed t old a new → Composed t old b other → (a ≡ b) × (new ≡ other)
+
+-- The same of what composing gives.
+abbrev pub ShownComposedGiven : Type 0
+ShownComposedGiven = (cells : List Cell) (numbers before after old new : List ℕ) (n : ℕ) (r : Given) → Allowed cells numbers
+    → Shown (image_of cells numbers) before after n → Composed (take n after) old (meaning r) new → length (image_of cells numbers) ≤ length old
+    → (r ≡ Ok (Length (length (image_of cells numbers)))) × (new ≡ image_of cells numbers ++ drop (length (image_of cells numbers)) old)
+
+abbrev pub OneComposingGiven : Type 0
+OneComposingGiven = (t old new other : List ℕ) (r q : Given) → Composed t old (meaning r) new → Composed t old (meaning q) other
+    → (r ≡ q) × (new ≡ other)

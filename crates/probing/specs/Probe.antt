@@ -10,6 +10,7 @@ use Rattle.cells.specs.declared.Update.{Update}
 use Rattle.protocol.specs.Machine.{choose, Answer}
 use Rattle.protocol.specs.Machine as machine
 use Rattle.sheet.specs.Sheet.{sheet}
+use Rattle.sheet.specs.Answer.{BlockGiven, block_meaning}
 use Rattle.device.specs.Named.{update_of}
 use Rattle.table.specs.Promise.{Started}
 use Rattle.table.specs.Asked.{Asked, no_step, start, machine_step, DoesWith}
@@ -68,3 +69,8 @@ pub record Probed (call a b : ℕ) (u : Update) (ws xs : List ℕ) (r : Answer s
 -- No second outcome fits, whatever the number, the arguments and the words.
 abbrev pub OneProbe : Type 0
 OneProbe = (call a b : ℕ) (u : Update) (ws xs : List ℕ) (r s : Answer sheet) (ys zs : List ℕ) → Probed call a b u ws xs r ys → Probed call a b u ws xs s zs → (r ≡ s) × (ys ≡ zs)
+
+-- The same of what it gives.
+abbrev pub OneProbeGiven : Type 0
+OneProbeGiven = (call a b : ℕ) (u : Update) (ws xs : List ℕ) (r q : BlockGiven) (ys zs : List ℕ)
+    → Probed call a b u ws xs (block_meaning r) ys → Probed call a b u ws xs (block_meaning q) zs → (r ≡ q) × (ys ≡ zs)

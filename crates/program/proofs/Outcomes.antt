@@ -6,8 +6,9 @@ use Rattle.protocol.specs.declared.Refusal.TheVariants.{NoTable, OutsideAllowed}
 use Rattle.protocol.specs.Fits.{Sizes}
 use Rattle.protocol.specs.Machine.{Answer}
 use Rattle.sheet.specs.Sheet.{sheet}
+use Rattle.sheet.specs.Answer.{meaning}
 use Rattle.words.specs.Layout.{DEVICES}
-use Rattle.table.proofs.Once.{refused_once, either_way, one_start, does_once}
+use Rattle.table.proofs.Once.{refused_once, either_way, given_once, one_start, does_once}
 use Rattle.text.specs.Text.{Put}
 use Rattle.text.proofs.PutLaws.{put_once}
 use Rattle.lines.specs.Held.{fed_of, finish_of}
@@ -18,7 +19,7 @@ use Rattle.answers.specs.Answer.{answer_line}
 use Rattle.answering.specs.Program.{asked_by}
 use Rattle.answering.specs.Answered.{Small, StartedSmall}
 use Rattle.stepping.specs.Bytes.{Standing, Told, ByteFed, BytesFed}
-use Rattle.program.specs.Claims.{OneAnswer, OneChunk, OneEnd}
+use Rattle.program.specs.Claims.{OneAnswer, OneAnswerGiven, OneChunk, OneEnd}
 use lib.ListN.{get_or, take}
 
 module _ (xs : List ℕ) (a b : Answer sheet) (ys zs : List ℕ) where
@@ -29,6 +30,9 @@ module _ (xs : List ℕ) (a b : Answer sheet) (ys zs : List ℕ) where
 
 pub one_answer : OneAnswer
 one_answer line xs a b ys zs A B = does_once StartedSmall xs ys zs a b (start_once xs a b ys zs) (asked_by (parse_line (get_or xs DEVICES 0) line)) A B
+
+pub one_answer_given : OneAnswerGiven
+one_answer_given line xs r q ys zs A B = given_once r q ys zs (one_answer line xs (meaning r) (meaning q) ys zs A B)
 
 -- what is told of a byte, and at the end
 told_once : (f : Fed) (buffer xs s ys t zs : List ℕ) → Told f buffer xs s ys → Told f buffer xs t zs → (s ≡ t) × (ys ≡ zs)

@@ -1,7 +1,7 @@
 -- The answer to a line is the machine's, and the words hold its table afterwards. Assumes nothing.
-use mathlib.Core.Path.{◌≡◌, refl, sym, ap, subst, ◌∙◌}
+use mathlib.Core.Path.{◌≡◌, refl, sym, ap, ap₂, subst, ◌∙◌}
 use mathlib.Core.Bool.{Bool, true, false, ◌&&◌, false≢true}
-use mathlib.Core.List.{List, [], ◌∷◌, ◌++◌}
+use mathlib.Core.List.{List, [], ◌∷◌, ◌++◌, map}
 use mathlib.Core.Option.{Option, none, some}
 use Prim.Native.Nat.{ℕ, zero, suc, ◌≤◌}
 use native.Mathlib.Omega.{arith}
@@ -14,6 +14,8 @@ use Rattle.protocol.specs.declared.Refusal.TheVariants.{NoTable}
 use Rattle.protocol.specs.Machine.{Table, Step, step, fresh, refused, Answer, done}
 use Rattle.protocol.specs.Fits.{Sizes, Fits}
 use Rattle.sheet.specs.Sheet.{sheet, started}
+use Rattle.sheet.specs.Answer.{BlockGiven, block_meaning, written}
+use Rattle.sheet.proofs.OneAnswer.{written_meaning}
 use Rattle.sheet.proofs.Theorem.{reached_fits}
 use Rattle.sheet.proofs.Runs.{run_append}
 use Rattle.words.specs.Layout.{DEVICES}
@@ -23,7 +25,7 @@ use Rattle.steps.specs.Parse.{parse_line}
 use Rattle.table.specs.Asked.{Asked, no_step, start, machine_step}
 use Rattle.answering.specs.Program.{asked_by, allowed, small, start_from, step_from, reply_to, devices_of, answer_to, table_after}
 use Rattle.answering.specs.Answered.{Small, StartedSmall, Does}
-use Rattle.program.specs.Claims.{ZerosHoldNoTable, Reached, Holds, AnswersAsTheMachine, AnswersEveryLine}
+use Rattle.program.specs.Claims.{ZerosHoldNoTable, Reached, Holds, AnswersAsTheMachine, AnswersEveryLine, GivenAsTheMachine, EveryLineGiven}
 
 -- the bounds of a start, and the tests of them
 module _ (devices cells : ℕ) where
@@ -121,6 +123,21 @@ answers_every_line s (line ∷ lines) xs (a ∷ answers) ys H (zs, A, rest) =
     let one = answers_as_the_machine s line xs a zs H A in
     let more = answers_every_line (answer_to s line).table lines zs answers ys one.1 rest in
     (cc, more.1)
+
+-- the same of what is given, which is written of its meaning
+pub given_as_the_machine : GivenAsTheMachine
+given_as_the_machine s line xs r ys H A =
+    let o = answers_as_the_machine s line xs (block_meaning r) ys H A in
+    (sym (written_meaning r) ∙ ap written o.0, o.1)
+
+all_written : (given : List BlockGiven) → given ≡ map written (map block_meaning given)
+all_written [] = refl
+all_written (r ∷ given) = ap₂ (λ (x : BlockGiven) (l : List BlockGiven). x ∷ l) (sym (written_meaning r)) (all_written given)
+
+pub every_line_given : EveryLineGiven
+every_line_given s lines xs given ys H A =
+    let o = answers_every_line s lines xs (map block_meaning given) ys H A in
+    (all_written given ∙ ap (map written) o.0, o.1)
 
 -- before the first line
 pub zeros_hold_no_table : ZerosHoldNoTable

@@ -1,6 +1,6 @@
 -- The step program answers as document 01's machine does, to every line, to every list of lines and to every input, however it arrives; and
 -- no second outcome fits its promises. Assumes nothing.
-use Rattle.std.specs.Prelude.{◌≡◌, ◌↔◌, ◌⊎◌, List, [], ◌∷◌, ◌++◌, ℕ, ◌≤◌, length, get_or, take, drop, replicate}
+use Rattle.std.specs.Prelude.{◌≡◌, ◌↔◌, ◌⊎◌, List, [], ◌∷◌, ◌++◌, map, ℕ, ◌≤◌, length, get_or, take, drop, replicate}
 use Rattle.std.proofs.Math.Option.{Option, none, some}
 use Rattle.protocol.specs.declared.Refusal.{Refusal}
 use Rattle.protocol.specs.declared.Refusal.TheVariants.{NoTable, OutsideAllowed, NoStep}
@@ -9,6 +9,7 @@ use Rattle.protocol.specs.Machine as machine
 use Rattle.protocol.specs.Fits.{Sizes}
 use Rattle.protocol.specs.History as history
 use Rattle.sheet.specs.Sheet.{sheet, started}
+use Rattle.sheet.specs.Answer.{Given, BlockGiven, meaning, block_meaning, written}
 use Rattle.words.specs.Layout.{DEVICES}
 use Rattle.table.specs.Table.{need, reading, ValidTable}
 use Rattle.lines.specs.Lines.{ended_in, unended_after}
@@ -37,6 +38,11 @@ Holds (some t) xs = ValidTable xs × (reading xs ≡ t) × Reached t × (need 3 
 abbrev pub AnswersAsTheMachine : Type 0
 AnswersAsTheMachine = (s : Option (Table sheet)) (line xs : List ℕ) (a : Answer sheet) (ys : List ℕ) → Holds s xs → Answered line xs a ys
     → (a ≡ (answer_to s line).answer) × Holds (answer_to s line).table ys
+
+-- The same of what is given.
+abbrev pub GivenAsTheMachine : Type 0
+GivenAsTheMachine = (s : Option (Table sheet)) (line xs : List ℕ) (r : BlockGiven) (ys : List ℕ) → Holds s xs → Answered line xs (block_meaning r) ys
+    → (r ≡ written (answer_to s line).answer) × Holds (answer_to s line).table ys
 
 -- The words with which the program begins hold no table.
 abbrev pub ZerosHoldNoTable : Type 0
@@ -76,6 +82,11 @@ machine_answers s (line ∷ lines) = (answer_to s line).answer ∷ machine_answe
 abbrev pub AnswersEveryLine : Type 0
 AnswersEveryLine = (s : Option (Table sheet)) (lines : List (List ℕ)) (xs : List ℕ) (answers : List (Answer sheet)) (ys : List ℕ) → Holds s xs → AllAnswered lines xs answers ys
     → (answers ≡ machine_answers s lines) × Holds (table_after s lines) ys
+
+-- The same of what is given.
+abbrev pub EveryLineGiven : Type 0
+EveryLineGiven = (s : Option (Table sheet)) (lines : List (List ℕ)) (xs : List ℕ) (given : List BlockGiven) (ys : List ℕ) → Holds s xs
+    → AllAnswered lines xs (map block_meaning given) ys → (given ≡ map written (machine_answers s lines)) × Holds (table_after s lines) ys
 
 -- Bytes behind an unended line q: the lines that end in them are answered as the machine answers them, and the line that is left is held.
 pub record FedAsTheMachine (s : Option (Table sheet)) (q input text : List ℕ) (y : Standing) : Type 0 where
@@ -125,6 +136,10 @@ HoweverItArrives = (buffer xs : List ℕ) (chunks chunks' : List (List ℕ)) (te
 -- No second outcome fits, whatever the words and buffers hold.
 abbrev pub OneAnswer : Type 0
 OneAnswer = (line xs : List ℕ) (a b : Answer sheet) (ys zs : List ℕ) → Answered line xs a ys → Answered line xs b zs → (a ≡ b) × (ys ≡ zs)
+
+abbrev pub OneAnswerGiven : Type 0
+OneAnswerGiven = (line xs : List ℕ) (r q : Given) (ys zs : List ℕ) → Answered line xs (meaning r) ys → Answered line xs (meaning q) zs
+    → (r ≡ q) × (ys ≡ zs)
 
 abbrev pub OneChunk : Type 0
 OneChunk = (x : Standing) (input before after after' : List ℕ) (at at' : ℕ) (y z : Standing) → ChunkFed x input before after at y → ChunkFed x input before after' at' z

@@ -10,6 +10,8 @@ use lib.Seq.{ext_get_or}
 use Rattle.cells.specs.declared.Cell.{Cell}
 use Rattle.protocol.specs.Machine.{Device, Local, answer_of, Answer}
 use Rattle.sheet.specs.Sheet.{sheet}
+use Rattle.sheet.specs.Answer.{Given, meaning}
+use Rattle.sheet.proofs.OneAnswer.{meaning_one}
 use Rattle.words.specs.Layout.{TAKEN}
 use Rattle.words.specs.Place.{Place, Put, Filled, Numbers, Decides}
 use Rattle.record.specs.Reading.{device_of}
@@ -96,3 +98,12 @@ did_once devices cells f xs ys zs a b l A B = (
 
 pub tells_once : (devices cells : ℕ) (f : Device sheet → Local sheet) (xs : List ℕ) (a b : Answer sheet) → Tells devices cells f xs a → Tells devices cells f xs b → a ≡ b
 tells_once devices cells f xs a b A B = (ap (answer_of sheet) (sym A ∙ B))
+
+-- The same of what is given.
+pub did_given_once : (devices cells : ℕ) (f : Device sheet → Local sheet) (xs ys zs : List ℕ) (r q : Given) → length ys ≡ length zs
+    → Did devices cells f xs (meaning r) ys → Did devices cells f xs (meaning q) zs → (r ≡ q) × (ys ≡ zs)
+did_given_once devices cells f xs ys zs r q l A B = let o = did_once devices cells f xs ys zs (meaning r) (meaning q) l A B in (meaning_one r q o.0, o.1)
+
+pub tells_given_once : (devices cells : ℕ) (f : Device sheet → Local sheet) (xs : List ℕ) (r q : Given)
+    → Tells devices cells f xs (meaning r) → Tells devices cells f xs (meaning q) → r ≡ q
+tells_given_once devices cells f xs r q A B = meaning_one r q (tells_once devices cells f xs (meaning r) (meaning q) A B)

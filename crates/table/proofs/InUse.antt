@@ -8,7 +8,8 @@ use lib.ListN.{length, get_or, get_or-eq_default}
 use Rattle.cells.specs.declared.Cell.TheVariants.{Blank}
 use Rattle.protocol.specs.Machine.{Table, Answer}
 use Rattle.sheet.specs.Sheet.{sheet}
-use Rattle.sheet.proofs.OneAnswer.{same_answer}
+use Rattle.sheet.specs.Answer.{meaning, block_meaning}
+use Rattle.sheet.proofs.OneAnswer.{same_answer, meaning_one, block_meaning_one}
 use Rattle.words.specs.Layout.{TAKEN, RECORD, DEVICES, CELLS, SHEET, RECORDS}
 use Rattle.words.specs.Place.{cell_place}
 use Rattle.words.proofs.Places.{lt_or_ge, cell_local}
@@ -20,7 +21,7 @@ use Rattle.queues.specs.Parts.{PlacesAre}
 use Rattle.queues.proofs.Parts.{places_kept}
 use Rattle.table.specs.Table.{record_at, reading, InTable, ValidTable, IsTable}
 use Rattle.table.specs.Promise.{Stepped}
-use Rattle.table.specs.Claims.{Agree, OnlyWordsInUse}
+use Rattle.table.specs.Claims.{Agree, OnlyWordsInUse, GivenByWordsInUse, BlockGivenByWordsInUse}
 use Rattle.table.proofs.Part.{record_length, record_word}
 use Rattle.table.proofs.Tables.{reading_is, valid_from}
 use Rattle.record.proofs.Once.{stable}
@@ -96,3 +97,10 @@ only_words_in_use s xs ys A = record {
 
     no_table : (a b : Answer sheet) (xs' ys' : List ℕ) → Stepped s xs a xs' → Stepped s ys b ys' → (IsTable xs → ⊥) → a ≡ b
     no_table a b xs' ys' S R n = ((S.no_table n).number ∙ sym (R.no_table (λ T. n (also_table ys xs (agree_back xs ys A) T))).number)
+
+pub given_by_words_in_use : GivenByWordsInUse
+given_by_words_in_use s xs ys A xs' ys' r q S R = meaning_one r q ((only_words_in_use s xs ys A).answers xs' ys' (meaning r) (meaning q) S R)
+
+pub block_given_by_words_in_use : BlockGivenByWordsInUse
+block_given_by_words_in_use s xs ys A xs' ys' r q S R =
+    block_meaning_one r q ((only_words_in_use s xs ys A).answers xs' ys' (block_meaning r) (block_meaning q) S R)

@@ -12,7 +12,8 @@ use Rattle.protocol.specs.declared.Refusal.TheVariants.{NoTable, OutsideAllowed,
 use Rattle.protocol.specs.Machine.{Table, step, Answer}
 use Rattle.protocol.specs.Fits.{Sizes}
 use Rattle.sheet.specs.Sheet.{sheet}
-use Rattle.sheet.proofs.OneAnswer.{same_answer}
+use Rattle.sheet.specs.Answer.{Given, BlockGiven, meaning, block_meaning}
+use Rattle.sheet.proofs.OneAnswer.{same_answer, meaning_one, block_meaning_one}
 use Rattle.words.specs.Layout.{TAKEN, RECORD, DEVICES, CELLS, SHEET}
 use Rattle.words.specs.Place.{cell_place}
 use Rattle.words.proofs.Places.{lt_or_ge}
@@ -25,7 +26,7 @@ use Rattle.record.proofs.Same.{in_record}
 use Rattle.table.specs.Table.{need, record_at, reading, InTable, ValidTable, IsTable}
 use Rattle.table.specs.Promise.{Became, RefusedWith}
 use Rattle.table.specs.Asked.{Asked, no_step, start, machine_step, DoesWith}
-use Rattle.table.specs.Claims.{OneOutcome, OneStart}
+use Rattle.table.specs.Claims.{OneOutcome, OneStart, OneOutcomeGiven, OneBlockGiven, OneStartGiven}
 use Rattle.table.proofs.Part.{record_word}
 use Rattle.table.proofs.Tables.{device_at, taken_at}
 
@@ -101,6 +102,22 @@ pub one_start : OneStart
 one_start devices cells xs ys zs a b A B = either_way (Sizes devices cells) a b ys zs
     (λ z. ⊎_elim (λ l. refused_once NoTable xs ys zs a b (A.short z l) (B.short z l)) (λ g. ((A.begun z g).0 ∙ sym (B.begun z g).0, became_once xs ys zs _ (A.begun z g).1 (B.begun z g).1)) (lt_or_ge (length xs) (need devices)))
     (λ n. refused_once OutsideAllowed xs ys zs a b (A.outside n) (B.outside n))
+
+-- One answer of the machine is one result.
+pub given_once : (r q : Given) (ys zs : List ℕ) → (meaning r ≡ meaning q) × (ys ≡ zs) → (r ≡ q) × (ys ≡ zs)
+given_once r q ys zs o = (meaning_one r q o.0, o.1)
+
+pub block_given_once : (r q : BlockGiven) (ys zs : List ℕ) → (block_meaning r ≡ block_meaning q) × (ys ≡ zs) → (r ≡ q) × (ys ≡ zs)
+block_given_once r q ys zs o = (block_meaning_one r q o.0, o.1)
+
+pub one_outcome_given : OneOutcomeGiven
+one_outcome_given s xs ys zs r q A B = given_once r q ys zs (one_outcome s xs ys zs (meaning r) (meaning q) A B)
+
+pub one_block_given : OneBlockGiven
+one_block_given s xs ys zs r q A B = block_given_once r q ys zs (one_outcome s xs ys zs (block_meaning r) (block_meaning q) A B)
+
+pub one_start_given : OneStartGiven
+one_start_given devices cells xs ys zs r q A B = given_once r q ys zs (one_start devices cells xs ys zs (meaning r) (meaning q) A B)
 
 -- What was asked has one outcome, where a start has one.
 pub does_once : (Begins : (devices cells : ℕ) (xs : List ℕ) → Answer sheet → (ys : List ℕ) → Type 0) → (xs ys zs : List ℕ) (a b : Answer sheet) → ((devices cells : ℕ) → Begins devices cells xs a ys → Begins devices cells xs b zs → (a ≡ b) × (ys ≡ zs)) → (k : Asked) → DoesWith Begins k xs a ys → DoesWith Begins k xs b zs → (a ≡ b) × (ys ≡ zs)

@@ -8,13 +8,14 @@ use lib.ListN.{get_or, replicate}
 use Rattle.protocol.specs.Fits.{Sizes}
 use Rattle.protocol.specs.Machine.{Table, done, fresh, Answer}
 use Rattle.sheet.specs.Sheet.{sheet, started}
-use Rattle.sheet.proofs.OneAnswer.{done_refused}
+use Rattle.sheet.specs.Answer.{meaning}
+use Rattle.sheet.proofs.OneAnswer.{done_refused, meaning_one}
 use Rattle.words.specs.Layout.{DEVICES, CELLS}
 use Rattle.words.proofs.Places.{lt_or_ge}
 use Rattle.record.proofs.Same.{in_record}
 use Rattle.table.specs.Table.{record_at, InTable}
 use Rattle.table.specs.Promise.{Became}
-use Rattle.table.specs.Claims.{AllZeroIsNone, NeedInBytes, NonePastTheNeed, MadeAlike, StartReadsNoWord}
+use Rattle.table.specs.Claims.{AllZeroIsNone, NeedInBytes, NonePastTheNeed, MadeAlike, StartReadsNoWord, StartGivenByNoWord}
 use Rattle.table.proofs.Once.{table_words}
 
 pub all_zero_is_none : AllZeroIsNone
@@ -62,3 +63,7 @@ start_reads_no_word devices cells xs ys xs' ys' a b h k A B = ⊎_elim
       kept = λ i _. ap (λ (l : List ℕ). get_or l i 0) (A.outside n).untouched;
     })
     (either_sizes devices cells)
+
+pub start_given_by_no_word : StartGivenByNoWord
+start_given_by_no_word devices cells xs ys xs' ys' r q h k A B =
+    meaning_one r q (start_reads_no_word devices cells xs ys xs' ys' (meaning r) (meaning q) h k A B).answers

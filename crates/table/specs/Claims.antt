@@ -3,6 +3,7 @@
 use Rattle.std.specs.Prelude.{◌≡◌, List, ℕ, ◌*◌, ◌≤◌, length, get_or, replicate}
 use Rattle.protocol.specs.Machine.{Table, Result, done, Answer}
 use Rattle.sheet.specs.Sheet.{sheet}
+use Rattle.sheet.specs.Answer.{Given, BlockGiven, meaning, block_meaning}
 use Rattle.words.specs.Layout.{DEVICES}
 use Rattle.table.specs.Table.{need, reading, InTable, ValidTable, IsTable}
 use Rattle.table.specs.Promise.{Stepped, Started}
@@ -25,6 +26,19 @@ OneOutcome = (s : Table sheet → Result sheet) (xs ys zs : List ℕ) (a b : Ans
 
 abbrev pub OneStart : Type 0
 OneStart = (devices cells : ℕ) (xs ys zs : List ℕ) (a b : Answer sheet) → Started devices cells xs a ys → Started devices cells xs b zs → (a ≡ b) × (ys ≡ zs)
+
+-- The same of what a call, a block and start give.
+abbrev pub OneOutcomeGiven : Type 0
+OneOutcomeGiven = (s : Table sheet → Result sheet) (xs ys zs : List ℕ) (r q : Given) → Stepped s xs (meaning r) ys → Stepped s xs (meaning q) zs
+    → (r ≡ q) × (ys ≡ zs)
+
+abbrev pub OneBlockGiven : Type 0
+OneBlockGiven = (s : Table sheet → Result sheet) (xs ys zs : List ℕ) (r q : BlockGiven)
+    → Stepped s xs (block_meaning r) ys → Stepped s xs (block_meaning q) zs → (r ≡ q) × (ys ≡ zs)
+
+abbrev pub OneStartGiven : Type 0
+OneStartGiven = (devices cells : ℕ) (xs ys zs : List ℕ) (r q : Given) → Started devices cells xs (meaning r) ys
+    → Started devices cells xs (meaning q) zs → (r ≡ q) × (ys ≡ zs)
 
 -- Both slices have the need, and agree on the words in use of the first.
 pub record Agree (xs ys : List ℕ) : Type 0 where
@@ -53,3 +67,16 @@ pub record MadeAlike (xs xs' ys' : List ℕ) (a b : Answer sheet) : Type 0 where
 abbrev pub StartReadsNoWord : Type 0
 StartReadsNoWord = (devices cells : ℕ) (xs ys xs' ys' : List ℕ) (a b : Answer sheet) → need devices ≤ length xs → need devices ≤ length ys
     → Started devices cells xs a xs' → Started devices cells ys b ys' → MadeAlike xs xs' ys' a b
+
+-- What a call, a block and start give depends on no other word either.
+abbrev pub GivenByWordsInUse : Type 0
+GivenByWordsInUse = (s : Table sheet → Result sheet) (xs ys : List ℕ) → Agree xs ys → (xs' ys' : List ℕ) (r q : Given)
+    → Stepped s xs (meaning r) xs' → Stepped s ys (meaning q) ys' → r ≡ q
+
+abbrev pub BlockGivenByWordsInUse : Type 0
+BlockGivenByWordsInUse = (s : Table sheet → Result sheet) (xs ys : List ℕ) → Agree xs ys → (xs' ys' : List ℕ) (r q : BlockGiven)
+    → Stepped s xs (block_meaning r) xs' → Stepped s ys (block_meaning q) ys' → r ≡ q
+
+abbrev pub StartGivenByNoWord : Type 0
+StartGivenByNoWord = (devices cells : ℕ) (xs ys xs' ys' : List ℕ) (r q : Given) → need devices ≤ length xs → need devices ≤ length ys
+    → Started devices cells xs (meaning r) xs' → Started devices cells ys (meaning q) ys' → r ≡ q
