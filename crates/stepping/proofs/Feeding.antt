@@ -4,11 +4,12 @@ use mathlib.Core.List.{List, [], ◌∷◌, ◌++◌, append_assoc, append-nil}
 use Prim.Native.Nat.{ℕ, ◌+◌, ◌*◌, ◌≤◌, ◌<◌}
 use native.Mathlib.Omega.{arith}
 use native.Mathlib.Numerals.{add-one}
-use lib.ListN.{length, get_or, take}
+use lib.ListN.{length, get_or, take, length-take}
 use lib.Seq.{take_all, take-suc}
 use Rattle.protocol.specs.declared.Refusal.TheVariants.{NoStep}
 use Rattle.protocol.specs.Machine.{Answer, refused}
 use Rattle.sheet.specs.Sheet.{sheet}
+use Rattle.text.specs.Text.{Put}
 use Rattle.text.proofs.PutLaws.{put_none, put_then}
 use Rattle.lines.specs.Held.{fed_of, buffer_after, finish_of}
 use Rattle.lines.specs.declared.Unended.{Unended}
@@ -109,3 +110,13 @@ module _ (x : Standing) (input before : List ℕ) where
 
   pub sofar_all : (i : ℕ) (all after : List ℕ) (at : ℕ) (y : Standing) → length input ≤ i → input ≡ all → Sofar x input before i after at y → ChunkFed x all before after at y
   sofar_all i all after at y h e S = record { text = S.text; fed = subst (λ (l : List ℕ). BytesFed x l S.text y) (take_all i input h ∙ e) S.fed; puts = S.puts.puts }
+
+-- the text stands within the output buffer
+text_within : (before text after : List ℕ) (at : ℕ) → Put before 0 text after at → at ≤ length after
+text_within before text after at P = omega (arith, P.behind, ap length P.holds, length-take at after)
+
+pub chunk_within : (x : Standing) (input before after : List ℕ) (at : ℕ) (y : Standing) → ChunkFed x input before after at y → at ≤ length after
+chunk_within x input before after at y C = text_within before C.text after at C.puts
+
+pub end_within : (x : Standing) (before after : List ℕ) (at : ℕ) (ys : List ℕ) → Finished x before after at ys → at ≤ length after
+end_within x before after at ys F = text_within before F.text after at F.puts
