@@ -1,7 +1,7 @@
 // Loops over n places that read another slice: between a device's record, the server's sheet and words that a call keeps for itself.
-ghost use Rattle.std.specs.Prelude.{◌+◌, ◌*◌, ◌≤◌, length, get_or};
+ghost use Rattle.std.specs.Prelude.{◌≡◌, true, ◌+◌, ◌*◌, ◌≤◌, length, get_or};
 ghost use Rattle.words.specs.Layout.{PLACE};
-ghost use Rattle.words.specs.Place.{place, words_at, change_place, change_at, Filled, Numbers, Valid, Across, later_number};
+ghost use Rattle.words.specs.Place.{place, words_at, change_place, change_at, change_ok, Put, Filled, Numbers, Valid, Across, later_number};
 
 use crate::place::{get, put};
 use crate::run::later_number;
@@ -20,15 +20,26 @@ pub fn copy_from<T: Stored>(t: &mut [u64], to: usize, s: &[u64], from: usize, n:
     }
 }
 
+// Makes the change of s in place i from `from` on to the cell or change in place i from `to` on.
+fn change_one_from<T: Changed>(t: &mut [u64], to: usize, s: &[u64], from: usize, i: usize)
+    requires to_in_bounds { to + PLACE * i + PLACE ≤ length t.old }
+    requires to_value { words_at T.words_ok t.old (to + PLACE * i) ≡ true }
+    requires from_in_bounds { from + PLACE * i + PLACE ≤ length s.now }
+    requires from_value { change_ok s.now (from + PLACE * i) ≡ true }
+    ensures { Put (place T.of_words T.words_ok) t.old t.new (to + PLACE * i) (T.after (words_at T.of_words t.old (to + PLACE * i)) (change_at s.now (from + PLACE * i))) }
+{
+    let v: T = get(t, to, i);
+    let d: Change = get(s, from, i);
+    put(t, to, i, v.changed(d));
+}
+
 // Makes the n changes of s from `from` on to the cells or changes from `to` on, in place.
 pub fn change_from<T: Changed>(t: &mut [u64], to: usize, s: &[u64], from: usize, n: usize)
     requires { Across (place T.of_words T.words_ok) change_place t.old s.now to from n × Valid (place T.of_words T.words_ok) t.old to n }
     ensures { Filled (place T.of_words T.words_ok) t.old t.new to n (λ k. T.after (words_at T.of_words t.old (to + PLACE * k)) (change_at s.now (from + PLACE * k))) }
 {
     for i in 0..n {
-        let v: T = get(t, to, i);
-        let d: Change = get(s, from, i);
-        put(t, to, i, v.changed(d));
+        change_one_from::<T>(t, to, s, from, i);
     }
 }
 

@@ -1,7 +1,7 @@
 // Loops over the n places of a sheet or a joined change: n is the number of cells in use, never the room.
 ghost use Rattle.std.specs.Prelude.{◌≡◌, true, ◌+◌, ◌*◌, ◌≤◌, length, get_or};
 ghost use Rattle.words.specs.Layout.{PLACE};
-ghost use Rattle.words.specs.Place.{place, words_at, change_place, change_at, Filled, Valid, Apart, Beside, Numbers, later_number};
+ghost use Rattle.words.specs.Place.{place, words_at, change_place, change_at, change_ok, Put, Filled, Valid, Apart, Beside, Numbers, later_number};
 
 use crate::place::{get, put};
 use cells::Change;
@@ -30,15 +30,26 @@ pub fn copy<T: Stored>(t: &mut [u64], from: usize, to: usize, n: usize)
     }
 }
 
+// Makes the change in place i from `from` on to the cell or change in place i from `to` on.
+fn change_one<T: Changed>(t: &mut [u64], to: usize, from: usize, i: usize)
+    requires to_in_bounds { to + PLACE * i + PLACE ≤ length t.old }
+    requires to_value { words_at T.words_ok t.old (to + PLACE * i) ≡ true }
+    requires from_in_bounds { from + PLACE * i + PLACE ≤ length t.old }
+    requires from_value { change_ok t.old (from + PLACE * i) ≡ true }
+    ensures { Put (place T.of_words T.words_ok) t.old t.new (to + PLACE * i) (T.after (words_at T.of_words t.old (to + PLACE * i)) (change_at t.old (from + PLACE * i))) }
+{
+    let v: T = get(t, to, i);
+    let d: Change = get(t, from, i);
+    put(t, to, i, v.changed(d));
+}
+
 // Makes the n changes from `from` on to the cells or changes from `to` on, in place.
 pub fn change<T: Changed>(t: &mut [u64], to: usize, from: usize, n: usize)
     requires { Beside (place T.of_words T.words_ok) change_place t.old to from n × Valid (place T.of_words T.words_ok) t.old to n }
     ensures { Filled (place T.of_words T.words_ok) t.old t.new to n (λ k. T.after (words_at T.of_words t.old (to + PLACE * k)) (change_at t.old (from + PLACE * k))) }
 {
     for i in 0..n {
-        let v: T = get(t, to, i);
-        let d: Change = get(t, from, i);
-        put(t, to, i, v.changed(d));
+        change_one::<T>(t, to, from, i);
     }
 }
 
