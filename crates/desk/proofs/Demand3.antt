@@ -203,7 +203,8 @@ demand_3_over_calls b ms xs R =
     reached b ms xs first.0 (called_steps b first.0 ms [] R.first xs first.1 R.calls R.goes_on)
 
 pub reads_given : ReadsGiven
-reads_given b ms xs R d c r ys C h k = meaning_one r (Ok (Value (read_by b (history_of b ms) d c))) ((demand_3_over_calls b ms xs R).reads d c (meaning r) ys C h k)
+reads_given b ms xs R d c r ys C h k =
+    meaning_one r (Ok (Value (read_by b (history_of b ms) d c))) ((demand_3_over_calls b ms xs R).reads d c (meaning r) ys C h k)
 
 pub reconnects_given : ReconnectsGiven
 reconnects_given b ms xs R d h i ns e ys zs r C A = meaning_one r (Ok Yes) ((demand_3_over_calls b ms xs R).reconnects d h i ns e ys zs (meaning r) C A)
